@@ -1,0 +1,3 @@
+pub mod Flipping
+pub mod Places
+pub mod Rings
