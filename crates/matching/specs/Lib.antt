@@ -1,0 +1,4 @@
+pub mod Acceptance
+pub mod Answers
+pub mod Plans
+pub mod Stability

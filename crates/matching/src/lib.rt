@@ -1,0 +1,3 @@
+// Plans over lists of crews and sites.
+mod proposals;
+pub mod stable;
