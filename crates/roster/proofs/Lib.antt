@@ -1,0 +1,14 @@
+pub mod Earliest
+pub mod HeadBlocks
+pub mod Law
+pub mod Laying
+pub mod PartyBlocks
+pub mod Pushing
+pub mod Readings
+pub mod Sealed
+pub mod Shown
+pub mod Sides
+pub mod SpanBlocks
+pub mod Texts
+pub mod Weights
+pub mod Writes

@@ -1,0 +1,6 @@
+pub mod Evidence
+pub mod FirstFault
+pub mod Held
+pub mod LaidDown
+pub mod Layout
+pub mod Order
