@@ -32,6 +32,7 @@ class Planner(unittest.TestCase):
         for size, crews, sites in ((0, 3, 4), (1, 0, 0), (3, 0, 1), (4, 3, 2), (5, 65535, 7)):
             printed = run("--ring", str(size), str(crews), str(sites))
             self.assertEqual(printed, (0, expected(ring(size, crews, sites)), ""))
+        self.assertEqual(run("--ring", "+3", "0", "01"), run("--ring", "3", "0", "1"))
 
     def test_largest(self):
         everyone = list(range(250))

@@ -1,3 +1,4 @@
 pub mod Choices
+pub mod Commands
 pub mod Partners
 pub mod Trials

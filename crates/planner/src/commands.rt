@@ -1,8 +1,8 @@
 // What the planner is asked to do.
-use crate::troubles::Trouble;
-use crate::troubles::TroubleFromInput;
-use crate::troubles::TroubleFromRefused;
-use std::env;
+ghost use mathlib.Core.List.{[], _∷_, map};
+ghost use lib.Chars.{codes};
+ghost use Rattle.std.specs.Of.String.{string-bytes};
+ghost use Rattle.planner.specs.Commands.{Writes, Found, Asks};
 
 #[derive(Drop)]
 pub enum Command<'a> {
@@ -16,43 +16,51 @@ pub enum Command<'a> {
     Ring { size: u16, crews: u16, sites: u16 },
 }
 
-// The words after the program's name.
-pub fn words(rt: &LibcRuntime) -> Result<Vec<String>, Trouble> {
-    let mut words = Vec::new(rt.alloc());
-    for word in env::args(rt)?.skip(1) {
-        words.push(word)?;
-    }
-    Ok(words)
-}
-
-fn number(word: &str) -> Result<u16, Trouble> {
-    match word.parse::<u16>() {
-        Ok(number) => Ok(number),
-        Err(_) => Err(Trouble::Usage),
-    }
+// The number that a word writes, if any.
+fn number(word: &str) -> Option<u16>
+    ensures { λ r. ⌜ Found r (Writes (now (word .entry))) ⌝ }
+{
+    word.parse::<u16>().ok()
 }
 
 impl Command<'_> {
-    pub fn of(words: &[String]) -> Result<Command<'_>, Trouble> {
+    // What the words after the program's name ask for, if anything.
+    pub fn of(words: &[String]) -> Option<Command<'_>>
+        ensures { λ r. ⌜ Found r (Asks (map string-bytes (now (words .entry)))) ⌝ }
+    {
         match words {
-            [] => Ok(Command::Input),
-            [word] => Ok(Command::of_word(word.as_str())?),
-            [word, size, crews, sites] if word.as_str() == "--ring" => Ok(Command::Ring {
-                size: number(size.as_str())?,
-                crews: number(crews.as_str())?,
-                sites: number(sites.as_str())?,
-            }),
-            _ => Err(Trouble::Usage),
+            [] => Some(Command::Input),
+            [word] => Command::of_word(word.as_str()),
+            [word, size, crews, sites] if word.as_str() == "--ring" => Command::of_ring(
+                size.as_str(),
+                crews.as_str(),
+                sites.as_str(),
+            ),
+            _ => None,
         }
     }
 
-    fn of_word(word: &str) -> Result<Command<'_>, Trouble> {
+    // What one word asks for.
+    fn of_word(word: &str) -> Option<Command<'_>>
+        ensures { λ r. ⌜ Found r (Asks (now (word .entry) ∷ [])) ⌝ }
+    {
         if word == "--help" {
-            Ok(Command::Help)
+            Some(Command::Help)
         } else if word.starts_with("--") {
-            Err(Trouble::Usage)
+            None
         } else {
-            Ok(Command::File { path: word })
+            Some(Command::File { path: word })
         }
+    }
+
+    // The ring of three words.
+    fn of_ring<'a>(size: &'a str, crews: &'a str, sites: &'a str) -> Option<Command<'a>>
+        ensures { λ r. ⌜ Found r (Asks (codes "--ring" ∷ now (size .entry) ∷ now (crews .entry) ∷ now (sites .entry) ∷ [])) ⌝ }
+    {
+        Some(Command::Ring {
+            size: number(size)?,
+            crews: number(crews)?,
+            sites: number(sites)?,
+        })
     }
 }

@@ -7,6 +7,7 @@ mod troubles;
 
 use commands::Command;
 use reports::HELP;
+use std::env;
 use std::fs::File;
 use std::io;
 use std::io::Read;
@@ -14,6 +15,7 @@ use troubles::Trouble;
 use troubles::TroubleDisplay;
 use troubles::TroubleFromInput;
 use troubles::TroubleFromMemory;
+use troubles::TroubleFromRefused;
 
 // One byte more than the longest roster has, so that a longer one is seen to be too long.
 const MOST_BYTES: u64 = 501 * 512 + 1;
@@ -31,9 +33,18 @@ fn pair_roster(rt: &LibcRuntime, source: impl Read + Drop) -> Result<(), Trouble
     Ok(())
 }
 
+// The words after the program's name.
+fn words(rt: &LibcRuntime) -> Result<Vec<String>, Trouble> {
+    let mut words = Vec::new(rt.alloc());
+    for word in env::args(rt)?.skip(1) {
+        words.push(word)?;
+    }
+    Ok(words)
+}
+
 fn run(rt: &LibcRuntime) -> Result<(), Trouble> {
-    let words = commands::words(rt)?;
-    match Command::of(words.as_slice())? {
+    let words = words(rt)?;
+    match Command::of(words.as_slice()).ok_or(Trouble::Usage)? {
         Command::Help => rt.print(HELP)?,
         Command::Ring { size, crews, sites } => rt.print(
             trials::of_ring(rt.alloc(), size, crews, sites)?,
