@@ -1,4 +1,6 @@
 // Many rosters, each with a line that says what came of it: its first fault, or its two stable plans.
+#![tactic(auto)]
+
 use lists::faults::{Fault, Layer, Place};
 use lists::flips::Flip;
 use lists::interface::Lists;

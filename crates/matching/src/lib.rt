@@ -1,4 +1,6 @@
 // Plans over lists of crews and sites.
+#![tactic(auto)]
+
 pub mod checks;
 mod limits;
 mod proposals;

@@ -1,4 +1,6 @@
 // Pairs the drive crews and radio sites of a trial, and prints who works with whom.
+#![tactic(auto)]
+
 mod commands;
 mod pairings;
 mod reports;

@@ -1,4 +1,6 @@
 // Rosters: lists of crews and sites laid down in blocks of bytes, and how they are read.
+#![tactic(auto)]
+
 mod blocks;
 mod halves;
 mod heads;

@@ -5,4 +5,4 @@ use Rattle.lists.proofs.rings.RingLists.count.Goals as goal
 pub returns : goal.returns
 returns c =
     let r = c.args.self.now in
-    c.parties.ensures ∙ sym (size_ring r.size r.crews r.sites c.args.-side)
+    c.parties.ensures ∙ sym (size_ring r.size r.crews r.sites c.args._side)
