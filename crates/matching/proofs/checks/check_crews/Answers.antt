@@ -8,8 +8,8 @@ use Rattle.matching.proofs.Granted.{granted_ok, granted_err, ok_granted, err_gra
 use Rattle.matching.proofs.Passing.{crew_passes, taken_none, taken_more}
 use Rattle.matching.proofs.checks.check_crews.Goals as goal
 
-pub overflow-cast-crew : goal.overflow-cast-crew
-overflow-cast-crew g c = let few = (g.L.Lists.lawful c.args.lists.now).few Crew in omega arith
+pub overflow_cast-crew : goal.overflow_cast-crew
+overflow_cast-crew g c = let few = (g.L.Lists.lawful c.args.lists.now).few Crew in omega arith
 
 pub loop-crew-init : goal.loop-crew-init
 loop-crew-init g c = (taken_none c.args.plan.now c.new-taken.result.sites c.new-taken.ensures, earliest_none _)
@@ -20,17 +20,17 @@ take-requires g c =
     let P = c.args.plan.now in
     let crew = c.loop-crew.crew in
     let few = (g.L.Lists.lawful c.args.lists.now).few Site in
-    let passes = crew_passes L P c.args.which crew (granted_ok _ tt _ c.in-ok-check-crew.ensures) in
+    let passes = crew_passes L P c.args.which crew (granted_ok _ tt _ c.in_ok-check_crew.ensures) in
     (omega (arith, passes.exists), c.loop-crew.invariant.0.sized)
 
-pub returns-in-err-check-crew : goal.returns-in-err-check-crew
-returns-in-err-check-crew g c =
-    let p = err_from_is_err_and c.from-residual.result c.from-residual.ensures.1 in
+pub returns-in_err-check_crew : goal.returns-in_err-check_crew
+returns-in_err-check_crew g c =
+    let p = err_from_is_err_and c.from_residual.result c.from_residual.ensures.1 in
     let L = g.L.Lists.meaning c.args.lists.now in
     let P = c.args.plan.now in
     rw (p.1, p.2)
     (err_granted _ tt _ (earliest_found c.loop-crew.crew (length P) (crew_fault L P c.args.which) _ (omega arith) c.loop-crew.invariant.1
-    (granted_err _ tt _ c.in-err-check-crew.ensures)))
+    (granted_err _ tt _ c.in_err-check_crew.ensures)))
 
 pub loop-crew-preserved : goal.loop-crew-preserved
 loop-crew-preserved g c =
@@ -38,7 +38,7 @@ loop-crew-preserved g c =
     let P = c.args.plan.now in
     let crew = c.loop-crew.crew in
     let few = (g.L.Lists.lawful c.args.lists.now).few Site in
-    let none = granted_ok _ tt _ c.in-ok-check-crew.ensures in
+    let none = granted_ok _ tt _ c.in_ok-check_crew.ensures in
     let passes = crew_passes L P c.args.which crew none in (
       subst (TakenBelow P _) (sym c.take.ensures) (taken_more P crew c.loop-crew.taken.sites (omega arith) (omega (arith, passes.exists)) c.loop-crew.invariant.0),
       earliest_step crew (crew_fault L P c.args.which) c.loop-crew.invariant.1 none,

@@ -18,7 +18,7 @@ returns g c =
     let P = c.args.plan.now in
     let whole = c.if-plan-count.false ∙ c.count.ensures in
     record {
-      answer = c.check-crews.ensures
+      answer = c.check_crews.ensures
           ∙ ap (λ (n : ℕ). granted (earliest n (crew_fault L P c.args.which)) tt) whole
           ∙ ap (λ o. granted o tt) (sym (or_second (length_fault L P c.args.which) _ (length_passes L P c.args.which whole)));
       meaning = passing_is_a_plan;

@@ -11,4 +11,4 @@ pair-requires g c =
 pub returns : goal.returns
 returns g c =
     let L = g.L.Lists.meaning c.args.lists.now in
-    (c.write-sites.ensures ∙ ap (sites_in L) c.pair.ensures.is, c.write-levels.ensures ∙ ap (levels_in L) c.pair.ensures.is)
+    (c.write_sites.ensures ∙ ap (sites_in L) c.pair.ensures.is, c.write_levels.ensures ∙ ap (levels_in L) c.pair.ensures.is)

@@ -6,16 +6,16 @@ use Rattle.matching.specs.Settled.{site_by_copies}
 use Rattle.matching.proofs.Filling.{filled_more}
 use Rattle.matching.proofs.settled.write_sites.Goals as goal
 
-pub overflow-cast-crew : goal.overflow-cast-crew
-overflow-cast-crew g c = let few = (g.L.Lists.lawful c.args.lists.now).few Crew in omega arith
+pub overflow_cast-crew : goal.overflow_cast-crew
+overflow_cast-crew g c = let few = (g.L.Lists.lawful c.args.lists.now).few Crew in omega arith
 
 pub loop-crew-preserved : goal.loop-crew-preserved
 loop-crew-preserved g c =
     let L = g.L.Lists.meaning c.args.lists.now in
     let kept = c.loop-crew.invariant in (
-      length-set c.loop-crew.plan c.loop-crew.crew c.site-in.result ∙ kept.0,
+      length-set c.loop-crew.plan c.loop-crew.crew c.site_in.result ∙ kept.0,
       kept.1,
-      filled_more (site_by_copies L c.args.both.now) c.loop-crew.plan c.loop-crew.crew c.site-in.result (omega arith) c.site-in.ensures kept.2,
+      filled_more (site_by_copies L c.args.both.now) c.loop-crew.plan c.loop-crew.crew c.site_in.result (omega arith) c.site_in.ensures kept.2,
     )
 
 pub returns : goal.returns

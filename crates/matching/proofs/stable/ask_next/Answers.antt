@@ -10,25 +10,25 @@ bounds-state-asker g c =
     asker_fits (g.L.Lists.meaning c.args.lists.now) (g.L.Lists.lawful c.args.lists.now)
     c.args.state.now.refusals c.args.state.now.holds c.requires.0 c.args.asker c.requires.1
 
-pub returns-in-err-site : goal.returns-in-err-site
-returns-in-err-site g c = λ n before.
+pub returns-in_err-site : goal.returns-in_err-site
+returns-in_err-site g c = λ n before.
     let L = g.L.Lists.meaning c.args.lists.now in
     let lawful = g.L.Lists.lawful c.args.lists.now in
     let refusals = c.args.state.now.refusals in
     let holds = c.args.state.now.holds in
-    let all = entry_none L Crew c.args.asker c.crew.result c.crew.ensures (get_or refusals c.args.asker 0) (sym c.in-err-site.was ∙ c.entry.ensures) in
-    subst (Turned L n (unrefused L refusals) refusals holds) (sym c.from-residual.ensures) (turn_ends L lawful refusals holds n c.args.asker before all)
+    let all = entry_none L Crew c.args.asker c.crew.result c.crew.ensures (get_or refusals c.args.asker 0) (sym c.in_err-site.was ∙ c.entry.ensures) in
+    subst (Turned L n (unrefused L refusals) refusals holds) (sym c.from_residual.ensures) (turn_ends L lawful refusals holds n c.args.asker before all)
 
-pub returns-in-err-place : goal.returns-in-err-place
-returns-in-err-place g c = λ n before.
+pub returns-in_err-place : goal.returns-in_err-place
+returns-in_err-place g c = λ n before.
     let L = g.L.Lists.meaning c.args.lists.now in
     let lawful = g.L.Lists.lawful c.args.lists.now in
     let refusals = c.args.state.now.refusals in
     let holds = c.args.state.now.holds in
     let asker = c.args.asker in
-    let site = c.in-ok-site.site in
-    let asked = entry_some L Crew asker c.crew.result c.crew.ensures (get_or refusals asker 0) site c.in-ok-site.ensures in
-    let unnamed = place_none L Site site c.site.result c.site.ensures asker (sym c.in-err-place.was ∙ c.place.ensures) in
+    let site = c.in_ok-site.site in
+    let asked = entry_some L Crew asker c.crew.result c.crew.ensures (get_or refusals asker 0) site c.in_ok-site.ensures in
+    let unnamed = place_none L Site site c.site.result c.site.ensures asker (sym c.in_err-place.was ∙ c.place.ensures) in
     let named = listed L lawful refusals holds n asker before site _ asked.0 asked.1 refl in
     absurd (omega arith)
 
@@ -41,10 +41,10 @@ ask-requires g c =
     let asker = c.args.asker in
     let n = c.requires.0 in
     let before = c.requires.1 in
-    let site = c.in-ok-site.site in
-    let asked = entry_some L Crew asker c.crew.result c.crew.ensures (get_or refusals asker 0) site c.in-ok-site.ensures in
+    let site = c.in_ok-site.site in
+    let asked = entry_some L Crew asker c.crew.result c.crew.ensures (get_or refusals asker 0) site c.in_ok-site.ensures in
     record {
-      crew-within = asker_fits L lawful refusals holds n asker before;
+      crew_within = asker_fits L lawful refusals holds n asker before;
       site_within = site_within L lawful refusals holds n asker before site _ asked.0 asked.1 refl;
       room = count_fits L lawful refusals holds n asker before asker asked.0;
       held = holder_fits L lawful refusals holds n asker before site;
@@ -57,8 +57,8 @@ returns g c = λ n before.
     let refusals = c.args.state.now.refusals in
     let holds = c.args.state.now.holds in
     let asker = c.args.asker in
-    let site = c.in-ok-site.site in
-    let asked = entry_some L Crew asker c.crew.result c.crew.ensures (get_or refusals asker 0) site c.in-ok-site.ensures in
-    let ranked = place_some L Site site c.site.result c.site.ensures asker c.in-ok-place.place c.in-ok-place.ensures in
-    turn_answered L lawful refusals holds n asker before site c.in-ok-place.place asked.0 asked.1 ranked.1
+    let site = c.in_ok-site.site in
+    let asked = entry_some L Crew asker c.crew.result c.crew.ensures (get_or refusals asker 0) site c.in_ok-site.ensures in
+    let ranked = place_some L Site site c.site.result c.site.ensures asker c.in_ok-place.place c.in_ok-place.ensures in
+    turn_answered L lawful refusals holds n asker before site c.in_ok-place.place asked.0 asked.1 ranked.1
     c.ask.new.self.refusals c.ask.new.self.holds c.ask.result c.ask.ensures.refused c.ask.ensures.refusals c.ask.ensures.holds

@@ -3,14 +3,14 @@ use Rattle.lists.specs.declared.parties.Side.TheVariants.{Crew, Site}
 use Rattle.matching.proofs.Asked.{entry_some}
 use Rattle.matching.proofs.stable.write_down.Goals as goal
 
-pub overflow-cast-crew : goal.overflow-cast-crew
-overflow-cast-crew g c = let few = (g.L.Lists.lawful c.args.lists.now).few Crew in omega arith
+pub overflow_cast-crew : goal.overflow_cast-crew
+overflow_cast-crew g c = let few = (g.L.Lists.lawful c.args.lists.now).few Crew in omega arith
 
 pub bounds-state-crew : goal.bounds-state-crew
 bounds-state-crew g c = let few = (g.L.Lists.lawful c.args.lists.now).few Crew in omega arith
 
-pub overflow-add-slot : goal.overflow-add-slot
-overflow-add-slot g c =
+pub overflow_add-slot : goal.overflow_add-slot
+overflow_add-slot g c =
     let L = g.L.Lists.meaning c.args.lists.now in
     let lawful = g.L.Lists.lawful c.args.lists.now in
     let crew = c.loop-crew.crew in

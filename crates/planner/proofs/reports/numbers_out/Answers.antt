@@ -3,7 +3,7 @@ use Rattle.std.proofs.lemmas.Bool.{cond-true, cond-false, not_from_true, not_fro
 use Rattle.planner.specs.Choices.{left_numbers}
 use Rattle.planner.specs.Partners.{partner_in}
 use Rattle.planner.proofs.reports.numbers_out.Goals as goal
-use Rattle.planner.proofs.reports.numbers_out.Goals.{then-is-none+in-ok-more+in-ok-push-str, else-is-none}
+use Rattle.planner.proofs.reports.numbers_out.Goals.{then-is_none+in_ok-more+in_ok-push_str, else-is_none}
 
 -- one number more, of a party that is left out and of one that is not
 left_more : (f : ℕ → Option ℕ) (n : ℕ) → is_some (f n) ≡ false → left_numbers f n ++ (codes " " ++ decimal n) ≡ left_numbers f (n + 1)
@@ -18,16 +18,16 @@ pub loop-number-preserved : goal.loop-number-preserved
 loop-number-preserved c =
     let f = partner_in (vec_items c.args.pairing.now.plan) c.args.pairing.now.side c.args.side in
     let n = c.loop-number.number-counter in
-    let same : is_some (f n) ≡ not c.is-none.result = ap is_some (sym c.partner.ensures) ∙ c.is-none.ensures in
-    elim c.if-is-none.branch [
-      | then-is-none+in-ok-more+in-ok-push-str w ↦
-          let more = w.in-ok-push-str.ensures.bytes in
-          let word = w.as-str.ensures.value ∙ w.in-ok-more.ensures.ok in
+    let same : is_some (f n) ≡ not c.is_none.result = ap is_some (sym c.partner.ensures) ∙ c.is_none.ensures in
+    elim c.if-is_none.branch [
+      | then-is_none+in_ok-more+in_ok-push_str w ↦
+          let more = w.in_ok-push_str.ensures.bytes in
+          let word = w.as_str.ensures.value ∙ w.in_ok-more.ensures.ok in
           ap string_bytes w.text-is
           ∙ more
-          ∙ ap (λ xs. xs ++ w.as-str.result.now) c.loop-number.invariant
+          ∙ ap (λ xs. xs ++ w.as_str.result.now) c.loop-number.invariant
           ∙ ap (λ xs. left_numbers f n ++ xs) word
-          ∙ left_more f n (same ∙ not_from_true c.is-none.result w.if-is-none.true)
-      | else-is-none w ↦
-          ap string_bytes w.text-is ∙ c.loop-number.invariant ∙ left_same f n (same ∙ not_from_false c.is-none.result w.if-is-none.false)
+          ∙ left_more f n (same ∙ not_from_true c.is_none.result w.if-is_none.true)
+      | else-is_none w ↦
+          ap string_bytes w.text-is ∙ c.loop-number.invariant ∙ left_same f n (same ∙ not_from_false c.is_none.result w.if-is_none.false)
     ]

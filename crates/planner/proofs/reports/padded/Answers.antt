@@ -4,7 +4,7 @@ use Rattle.std.proofs.lemmas.List.{replicate_more}
 use Rattle.planner.proofs.reports.padded.Goals as goal
 
 pub loop-at-init : goal.loop-at-init
-loop-at-init c = c.in-ok-padded.ensures.ok ∙ sym (append-nil c.args.text.now)
+loop-at-init c = c.in_ok-padded.ensures.ok ∙ sym (append-nil c.args.text.now)
 
 -- one space more
 pad_more : (t : List ℕ) (k : ℕ) → (t ++ replicate k 32) ++ 32 ∷ [] ≡ t ++ replicate (k + 1) 32
@@ -12,8 +12,8 @@ pad_more t k = append_assoc t (replicate k 32) (32 ∷ []) ∙ ap (λ xs. t ++ x
 
 pub loop-at-preserved : goal.loop-at-preserved
 loop-at-preserved c =
-    let grown = c.in-ok-push.ensures.bytes in
-    let space = c.in-ok-push.ensures.ascii (omega arith) in
+    let grown = c.in_ok-push.ensures.bytes in
+    let space = c.in_ok-push.ensures.ascii (omega arith) in
     let t = c.args.text.now in
     let k = c.loop-at.-at in
     grown

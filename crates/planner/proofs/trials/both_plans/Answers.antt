@@ -6,14 +6,14 @@ use Rattle.planner.proofs.trials.both_plans.Goals as goal
 pub returns : goal.returns
 returns g c =
     let L = g.L.Lists.meaning c.args.lists.now in
-    let P = vec_items c.in-ok-crew-best.crew_best_in_the_end.plan in
-    let Q = vec_items c.in-ok-site-best.site-best.plan in
-    let crews = c.in-ok-crew-best.ensures in
-    let sites = c.in-ok-site-best.ensures in
+    let P = vec_items c.in_ok-crew_best.crew_best_in_the_end.plan in
+    let Q = vec_items c.in_ok-site_best.site_best.plan in
+    let crews = c.in_ok-crew_best.ensures in
+    let sites = c.in_ok-site_best.ensures in
     record {
       crew_plan = P;
       site_plan = Q;
       crew_best = crews.1;
       site_best = sites.1;
-      shows = c.in-ok-trial.ensures ∙ ap₂ (λ s t. trial_text L (partner_in P s) (partner_in Q t)) crews.0 sites.0;
+      shows = c.in_ok-trial.ensures ∙ ap₂ (λ s t. trial_text L (partner_in P s) (partner_in Q t)) crews.0 sites.0;
     }

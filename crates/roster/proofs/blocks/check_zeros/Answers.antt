@@ -9,13 +9,13 @@ loop-at-init c =
     let z : c.args.from - c.args.from ≡ 0 = omega arith in
     rw z (earliest_none (λ k. byte_fault c.args.bytes.now c.args.block (c.args.from + k) 0))
 
-pub returns-in-err-check-byte : goal.returns-in-err-check-byte
-returns-in-err-check-byte c =
-    let p = err_from_is_err_and c.from-residual.result c.from-residual.ensures.1 in
+pub returns-in_err-check_byte : goal.returns-in_err-check_byte
+returns-in_err-check_byte c =
+    let p = err_from_is_err_and c.from_residual.result c.from_residual.ensures.1 in
     let e : c.args.from + (c.loop-at.at - c.args.from) ≡ c.loop-at.at = omega arith in
     rw (p.1, p.2)
     (sym (earliest_found (c.loop-at.at - c.args.from) _ (λ k. byte_fault c.args.bytes.now c.args.block (c.args.from + k) 0) _
-    (omega arith) c.loop-at.invariant (rw e (sym c.in-err-check-byte.ensures))))
+    (omega arith) c.loop-at.invariant (rw e (sym c.in_err-check_byte.ensures))))
 
 pub loop-at-preserved : goal.loop-at-preserved
 loop-at-preserved c =
@@ -23,4 +23,4 @@ loop-at-preserved c =
     let e : c.args.from + (c.loop-at.at - c.args.from) ≡ c.loop-at.at = omega arith in
     rw z
     (earliest_step (c.loop-at.at - c.args.from) (λ k. byte_fault c.args.bytes.now c.args.block (c.args.from + k) 0)
-    c.loop-at.invariant (rw e (sym c.in-ok-check-byte.ensures)))
+    c.loop-at.invariant (rw e (sym c.in_ok-check_byte.ensures)))

@@ -6,8 +6,8 @@ use Rattle.roster.proofs.blocks.weight.Goals as goal
 pub loop-at-init : goal.loop-at-init
 loop-at-init c = (sym (weighted_none _), omega arith)
 
-pub overflow-add-sum-in-loop-at : goal.overflow-add-sum-in-loop-at
-overflow-add-sum-in-loop-at c =
+pub overflow_add-sum-in-loop-at : goal.overflow_add-sum-in-loop-at
+overflow_add-sum-in-loop-at c =
     let b = weight_bound c.loop-at.at c.byte.result c.loop-at-test.true c.byte.type-inv in
     omega arith
 

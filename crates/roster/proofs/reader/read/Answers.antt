@@ -13,73 +13,73 @@ count s = s.count
 abbrev first : Span → ℕ
 first s = s.first
 
-pub check-returns-requires : goal.check-returns-requires
-check-returns-requires c =
+pub check_returns-requires : goal.check_returns-requires
+check_returns-requires c =
     let bs = c.args.bytes.now in
-    let cs = c.crew-span-crew-span.result in
-    let ss = c.site-span-site-span.result in
-    let vc = c.in-ok-crews.ensures.value in
-    let vs = c.in-ok-sites.ensures.value in
-    let n = read_count bs ss c.in-ok-sites.sites vs.1 in
-    let w = read_within bs cs c.in-ok-crews.crews vc.1 c.in-ok-crews.ensures.fault in
-    let o = ap others c.crew-span-crew-span.ensures in
-    let m = ap count c.site-span-site-span.ensures in
-    let f = ap first c.crew-span-crew-span.ensures in
+    let cs = c.crew_span-crew_span.result in
+    let ss = c.site_span-site_span.result in
+    let vc = c.in_ok-crews.ensures.value in
+    let vs = c.in_ok-sites.ensures.value in
+    let n = read_count bs ss c.in_ok-sites.sites vs.1 in
+    let w = read_within bs cs c.in_ok-crews.crews vc.1 c.in_ok-crews.ensures.fault in
+    let o = ap others c.crew_span-crew_span.ensures in
+    let m = ap count c.site_span-site_span.ensures in
+    let f = ap first c.crew_span-crew_span.ensures in
     (vc.0, (vs.0, (omega arith, λ i k l. omega (arith, w i k l))))
 
-pub check-returns-requires-2 : goal.check-returns-requires-2
-check-returns-requires-2 c =
+pub check_returns-requires-2 : goal.check_returns-requires-2
+check_returns-requires-2 c =
     let bs = c.args.bytes.now in
-    let cs = c.crew-span-crew-span.result in
-    let ss = c.site-span-site-span.result in
-    let vc = c.in-ok-crews.ensures.value in
-    let vs = c.in-ok-sites.ensures.value in
-    let n = read_count bs cs c.in-ok-crews.crews vc.1 in
-    let w = read_within bs ss c.in-ok-sites.sites vs.1 c.in-ok-sites.ensures.fault in
-    let o = ap others c.site-span-site-span.ensures in
-    let m = ap count c.crew-span-crew-span.ensures in
-    let f = ap first c.site-span-site-span.ensures in
-    let few = c.in-ok-counts.ensures.value.2 in
+    let cs = c.crew_span-crew_span.result in
+    let ss = c.site_span-site_span.result in
+    let vc = c.in_ok-crews.ensures.value in
+    let vs = c.in_ok-sites.ensures.value in
+    let n = read_count bs cs c.in_ok-crews.crews vc.1 in
+    let w = read_within bs ss c.in_ok-sites.sites vs.1 c.in_ok-sites.ensures.fault in
+    let o = ap others c.site_span-site_span.ensures in
+    let m = ap count c.crew_span-crew_span.ensures in
+    let f = ap first c.site_span-site_span.ensures in
+    let few = c.in_ok-counts.ensures.value.2 in
     (vs.0, (vc.0, (omega arith, λ i k l. omega (arith, w i k l))))
 
-pub invariant-of-result : goal.invariant-of-result
-invariant-of-result c =
+pub invariant_of-result : goal.invariant_of-result
+invariant_of-result c =
     let bs = c.args.bytes.now in
-    let v = c.in-ok-counts.ensures.value in
-    let vc = c.in-ok-crews.ensures.value in
-    let vs = c.in-ok-sites.ensures.value in
-    let ec = c.crew-span-crew-span.ensures ∙ ap₂ (λ (a b : ℕ). record { kind = 2; first = 1; count = a; others = b }) v.0 v.1 in
-    let es = c.site-span-site-span.ensures ∙ ap₂ (λ (a b : ℕ). record { kind = 3; first = 1 + a; count = b; others = a }) v.0 v.1 in
+    let v = c.in_ok-counts.ensures.value in
+    let vc = c.in_ok-crews.ensures.value in
+    let vs = c.in_ok-sites.ensures.value in
+    let ec = c.crew_span-crew_span.ensures ∙ ap₂ (λ (a b : ℕ). record { kind = 2; first = 1; count = a; others = b }) v.0 v.1 in
+    let es = c.site_span-site_span.ensures ∙ ap₂ (λ (a b : ℕ). record { kind = 3; first = 1 + a; count = b; others = a }) v.0 v.1 in
     let nc = v.2 in
     let ns = v.3 in
     let ac = v.0 in
     let bd = v.1 in (
       ∣ kept_read bs _ _ _ _ ec es vc.1 vs.1 (omega arith) (omega arith) vc.0 vs.0
-          c.in-ok-crews.ensures.fault c.in-ok-sites.ensures.fault
-          c.in-ok-check-returns.ensures c.in-ok-check-returns-2.ensures ∣₁,
+          c.in_ok-crews.ensures.fault c.in_ok-sites.ensures.fault
+          c.in_ok-check_returns.ensures c.in_ok-check_returns-2.ensures ∣₁,
       tt,
     )
 
-pub returns-in-err-check-length : goal.returns-in-err-check-length
-returns-in-err-check-length c = record { answer = search rules; law = rosters_are_lists_laid_down }
+pub returns-in_err-check_length : goal.returns-in_err-check_length
+returns-in_err-check_length c = record { answer = search rules; law = rosters_are_lists_laid_down }
 
-pub returns-in-err-counts : goal.returns-in-err-counts
-returns-in-err-counts c = record { answer = search rules; law = rosters_are_lists_laid_down }
+pub returns-in_err-counts : goal.returns-in_err-counts
+returns-in_err-counts c = record { answer = search rules; law = rosters_are_lists_laid_down }
 
-pub returns-in-err-check-blocks : goal.returns-in-err-check-blocks
-returns-in-err-check-blocks c = record { answer = search rules; law = rosters_are_lists_laid_down }
+pub returns-in_err-check_blocks : goal.returns-in_err-check_blocks
+returns-in_err-check_blocks c = record { answer = search rules; law = rosters_are_lists_laid_down }
 
-pub returns-in-err-crews : goal.returns-in-err-crews
-returns-in-err-crews c = record { answer = search rules; law = rosters_are_lists_laid_down }
+pub returns-in_err-crews : goal.returns-in_err-crews
+returns-in_err-crews c = record { answer = search rules; law = rosters_are_lists_laid_down }
 
-pub returns-in-err-sites : goal.returns-in-err-sites
-returns-in-err-sites c = record { answer = search rules; law = rosters_are_lists_laid_down }
+pub returns-in_err-sites : goal.returns-in_err-sites
+returns-in_err-sites c = record { answer = search rules; law = rosters_are_lists_laid_down }
 
-pub returns-in-err-check-returns : goal.returns-in-err-check-returns
-returns-in-err-check-returns c = record { answer = search rules; law = rosters_are_lists_laid_down }
+pub returns-in_err-check_returns : goal.returns-in_err-check_returns
+returns-in_err-check_returns c = record { answer = search rules; law = rosters_are_lists_laid_down }
 
-pub returns-in-err-check-returns-2 : goal.returns-in-err-check-returns-2
-returns-in-err-check-returns-2 c = record { answer = search rules; law = rosters_are_lists_laid_down }
+pub returns-in_err-check_returns-2 : goal.returns-in_err-check_returns-2
+returns-in_err-check_returns-2 c = record { answer = search rules; law = rosters_are_lists_laid_down }
 
 pub returns : goal.returns
 returns c = record { answer = search rules; law = rosters_are_lists_laid_down }

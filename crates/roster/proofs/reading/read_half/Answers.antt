@@ -14,26 +14,26 @@ use Rattle.roster.proofs.reading.read_half.Goals as goal
 pub loop-party-init : goal.loop-party-init
 loop-party-init c = (earliest_none _, c.of-half.ensures.1, c.of-half.ensures.0, λ i l. absurd (omega arith))
 
-pub returns-in-err-row : goal.returns-in-err-row
-returns-in-err-row c =
-    let p = err_from_is_err_and c.from-residual.result c.from-residual.ensures.1 in
+pub returns-in_err-row : goal.returns-in_err-row
+returns-in_err-row c =
+    let p = err_from_is_err_and c.from_residual.result c.from_residual.ensures.1 in
     rw (p.1, p.2)
     record {
       fault = sym (earliest_found c.loop-party.party _ (party_fault c.args.bytes.now c.args.span) _ c.loop-party-test.true
-          c.loop-party.invariant.0 (sym c.in-err-row.ensures.fault));
+          c.loop-party.invariant.0 (sym c.in_err-row.ensures.fault));
       value = tt;
     }
 
 pub loop-party-preserved : goal.loop-party-preserved
 loop-party-preserved c = (
   earliest_step c.loop-party.party (party_fault c.args.bytes.now c.args.span) c.loop-party.invariant.0
-      (sym c.in-ok-row.ensures.fault),
-  length-set c.loop-party.half.rows c.loop-party.party c.in-ok-row.row ∙ c.loop-party.invariant.1,
+      (sym c.in_ok-row.ensures.fault),
+  length-set c.loop-party.half.rows c.loop-party.party c.in_ok-row.row ∙ c.loop-party.invariant.1,
   c.loop-party.invariant.2,
   each_set (λ (i : ℕ) (r : Row). Placed r × (list_of r ≡ list_in c.args.bytes.now (c.args.span.first + i)))
-      c.loop-party.half.rows c.loop-party.party c.in-ok-row.row blank
+      c.loop-party.half.rows c.loop-party.party c.in_ok-row.row blank
       (let h = c.loop-party.invariant.1 in omega arith)
-      c.loop-party.invariant.3 c.in-ok-row.ensures.value,
+      c.loop-party.invariant.3 c.in_ok-row.ensures.value,
 )
 
 pub returns : goal.returns

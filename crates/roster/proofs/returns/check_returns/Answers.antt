@@ -15,8 +15,8 @@ party_returns own back first i = earliest (length (get_or (lists_of own) i [])) 
 pub loop-party-init : goal.loop-party-init
 loop-party-init c = earliest_none (party_returns c.args.own.now c.args.back.now c.args.first)
 
-pub check-row-requires : goal.check-row-requires
-check-row-requires c =
+pub check_row-requires : goal.check_row-requires
+check_row-requires c =
     let own = c.args.own.now in
     let party = c.loop-party.party in
     let row = c.requires.0.each party c.loop-party-test.true in
@@ -34,23 +34,23 @@ check-row-requires c =
       ),
     )
 
-pub returns-in-err-check-row : goal.returns-in-err-check-row
-returns-in-err-check-row c =
-    let p = err_from_is_err_and c.from-residual.result c.from-residual.ensures.1 in
+pub returns-in_err-check_row : goal.returns-in_err-check_row
+returns-in_err-check_row c =
+    let p = err_from_is_err_and c.from_residual.result c.from_residual.ensures.1 in
     let own = c.args.own.now in
     let party = c.loop-party.party in
     let n = side_length own in
     let r = returns_at own c.args.back.now (c.args.first + party) party c.requires.0 c.loop-party-test.true in
     rw (p.1, p.2)
     (sym (earliest_found party _ (party_returns own c.args.back.now c.args.first) _ (omega arith) c.loop-party.invariant
-    (r ∙ sym c.in-err-check-row.ensures)))
+    (r ∙ sym c.in_err-check_row.ensures)))
 
 pub loop-party-preserved : goal.loop-party-preserved
 loop-party-preserved c =
     let own = c.args.own.now in
     let party = c.loop-party.party in
     let r = returns_at own c.args.back.now (c.args.first + party) party c.requires.0 c.loop-party-test.true in
-    earliest_step party (party_returns own c.args.back.now c.args.first) c.loop-party.invariant (r ∙ sym c.in-ok-check-row.ensures)
+    earliest_step party (party_returns own c.args.back.now c.args.first) c.loop-party.invariant (r ∙ sym c.in_ok-check_row.ensures)
 
 pub returns : goal.returns
 returns c =

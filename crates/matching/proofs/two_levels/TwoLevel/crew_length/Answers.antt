@@ -5,8 +5,8 @@ use Rattle.matching.proofs.Asked.{length_of_party}
 use Rattle.matching.proofs.TwoLevelAnswers.{length_crew}
 use Rattle.matching.proofs.two_levels.TwoLevel.crew_length.Goals as goal
 
-pub overflow-add-result : goal.overflow-add-result
-overflow-add-result g c =
+pub overflow_add-result : goal.overflow_add-result
+overflow_add-result g c =
     let L = g.L.Lists.meaning c.args.self.now.lists in
     let lawful = g.L.Lists.lawful c.args.self.now.lists in
     let is = length_of_party L Crew (c.args.number / 2) c.crew.result c.crew.ensures c.length.result c.length.ensures in

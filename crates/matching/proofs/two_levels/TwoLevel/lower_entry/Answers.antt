@@ -8,7 +8,7 @@ pub returns-then-place-length : goal.returns-then-place-length
 returns-then-place-length g c =
     let L = g.L.Lists.meaning c.args.self.now.lists in
     let lawful = g.L.Lists.lawful c.args.self.now.lists in
-    ap Some c.stand-in.ensures
+    ap Some c.stand_in.ensures
     ∙ lower_entry_own lawful c.args.crew c.args.place
     (c.if-place-length.true ∙ length_of_party L Crew c.args.crew c.crew.result c.crew.ensures c.length.result c.length.ensures)
 

@@ -6,8 +6,8 @@ use Rattle.matching.specs.Evidence.TwoLevels.{site_split, length_split}
 use Rattle.matching.proofs.Asked.{length_of_party}
 use Rattle.matching.proofs.two_levels.TwoLevel.site_length.Goals as goal
 
-pub overflow-mul-result : goal.overflow-mul-result
-overflow-mul-result g c =
+pub overflow_mul-result : goal.overflow_mul-result
+overflow_mul-result g c =
     let L = g.L.Lists.meaning c.args.self.now.lists in
     let lawful = g.L.Lists.lawful c.args.self.now.lists in
     let is = length_of_party L Site c.args.number c.site.result c.site.ensures c.length.result c.length.ensures in

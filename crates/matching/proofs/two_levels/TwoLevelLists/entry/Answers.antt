@@ -9,24 +9,24 @@ returns-then-party-count g c =
     let L = g.L.Lists.meaning c.args.self.now.lists in
     past_entry (two_levels_of L) c.args.party.side c.args.party.number (omega arith) c.args.place
 
-pub crew-entry-requires : goal.crew-entry-requires
-crew-entry-requires g c =
+pub crew_entry-requires : goal.crew_entry-requires
+crew_entry-requires g c =
     below_crews (g.L.Lists.meaning c.args.self.now.lists) c.args.party.side c.args.party.number c.count.result c.in-Crew.is c.count.ensures c.if-party-count.false
 
-pub site-entry-requires : goal.site-entry-requires
-site-entry-requires g c =
+pub site_entry-requires : goal.site_entry-requires
+site_entry-requires g c =
     below_sites (g.L.Lists.meaning c.args.self.now.lists) c.args.party.side c.args.party.number c.count.result c.in-Site.is c.count.ensures c.if-party-count.false
 
 pub returns-in-Crew : goal.returns-in-Crew
 returns-in-Crew g c =
     let L = g.L.Lists.meaning c.args.self.now.lists in
-    crew_answer L c.args.party.side c.args.party.number (λ xs. entry_at xs c.args.place) c.crew-entry.result c.in-Crew.is
+    crew_answer L c.args.party.side c.args.party.number (λ xs. entry_at xs c.args.place) c.crew_entry.result c.in-Crew.is
     (below_crews L c.args.party.side c.args.party.number c.count.result c.in-Crew.is c.count.ensures c.if-party-count.false)
-    c.crew-entry.ensures
+    c.crew_entry.ensures
 
 pub returns-in-Site : goal.returns-in-Site
 returns-in-Site g c =
     let L = g.L.Lists.meaning c.args.self.now.lists in
-    site_answer L c.args.party.side c.args.party.number (λ xs. entry_at xs c.args.place) c.site-entry.result c.in-Site.is
+    site_answer L c.args.party.side c.args.party.number (λ xs. entry_at xs c.args.place) c.site_entry.result c.in-Site.is
     (below_sites L c.args.party.side c.args.party.number c.count.result c.in-Site.is c.count.ensures c.if-party-count.false)
-    c.site-entry.ensures
+    c.site_entry.ensures
