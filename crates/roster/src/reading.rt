@@ -3,7 +3,7 @@ ghost use Rattle.std.specs.Prelude.{◌≡◌, ◌+◌, ◌*◌, ◌<◌, ◌≤
 ghost use Rattle.std.specs.Result.{result_err};
 ghost use Rattle.lists.specs.Rankings.{place as place_in};
 ghost use Rattle.lists.specs.Order.{earliest};
-ghost use Rattle.roster.specs.Layout.{two_at, entries as entriesIn, list_in, lists_in};
+ghost use Rattle.roster.specs.Layout.{two_at, entries as entries_in, list_in, lists_in};
 ghost use Rattle.roster.specs.FirstFault.{entry_fault, party_fault, span_fault};
 ghost use Rattle.roster.specs.Held.{list_of, lists_of, Placed, Filled};
 
@@ -16,7 +16,7 @@ use lists::faults::Fault;
 // One entry, after those that the row holds.
 fn read_entry(bytes: &[u8], block: u16, others: u16, k: u16, row: &Row) -> Result<u16, Fault>
     requires within { (512 * block + 512 ≤ length bytes.now) × ((others ≤ 250) × (k < 250)) }
-    requires before { (Placed row.now) × ((row.now.length ≡ k) × (list_of row.now ≡ entriesIn bytes.now block k)) }
+    requires before { (Placed row.now) × ((row.now.length ≡ k) × (list_of row.now ≡ entries_in bytes.now block k)) }
     ensures fault { result_err result ≡ entry_fault bytes.now block others k }
     ensures value { IfOk result (λ v. (v ≡ two_at bytes.now block (6 + 2 * k)) × (v < 250) × (k ≤ place_in (list_of row.now) v)) }
 {
@@ -35,7 +35,7 @@ fn read_entry(bytes: &[u8], block: u16, others: u16, k: u16, row: &Row) -> Resul
 fn read_entries(bytes: &[u8], block: u16, others: u16, len: u16) -> Result<Row, Fault>
     requires { (512 * block + 512 ≤ length bytes.now) × ((others ≤ 250) × (len ≤ 250)) }
     ensures fault { result_err result ≡ earliest len (entry_fault bytes.now block others) }
-    ensures value { IfOk result (λ row. Placed row × (list_of row ≡ entriesIn bytes.now block len)) }
+    ensures value { IfOk result (λ row. Placed row × (list_of row ≡ entries_in bytes.now block len)) }
 {
     let mut row = Row::empty();
     for k in 0..len {

@@ -1,6 +1,6 @@
 // A roster that was read, and its answers as lists.
 ghost use Rattle.std.specs.Prelude.{◌≡◌};
-ghost use Rattle.lists.specs.Rankings.{half as listsOn};
+ghost use Rattle.lists.specs.Rankings.{half as lists_on};
 ghost use Rattle.roster.specs.Held.{lists_of, both_of, Filled, Kept};
 ghost use Rattle.roster.specs.Evidence.{both_lawful};
 
@@ -19,7 +19,7 @@ pub struct Roster {
 impl Roster {
     // One of the two sides.
     fn half(&self, side: Side) -> &Half
-        ensures { (Filled result.now) × (lists_of result.now ≡ listsOn (both_of self.now.crews self.now.sites) side) }
+        ensures { (Filled result.now) × (lists_of result.now ≡ lists_on (both_of self.now.crews self.now.sites) side) }
     {
         match side {
             Side::Crew => &self.crews,

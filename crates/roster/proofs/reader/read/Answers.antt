@@ -53,12 +53,12 @@ invariant_of-result c =
     let nc = v.2 in
     let ns = v.3 in
     let ac = v.0 in
-    let bd = v.1 in (
-      ∣ kept_read bs _ _ _ _ ec es vc.1 vs.1 (omega arith) (omega arith) vc.0 vs.0
+    let bd = v.1 in
+    record {
+      kept = ∣ kept_read bs _ _ _ _ ec es vc.1 vs.1 (omega arith) (omega arith) vc.0 vs.0
           c.in_ok-crews.ensures.fault c.in_ok-sites.ensures.fault
-          c.in_ok-check_returns.ensures c.in_ok-check_returns-2.ensures ∣₁,
-      tt,
-    )
+          c.in_ok-check_returns.ensures c.in_ok-check_returns-2.ensures ∣₁;
+    }
 
 pub returns-in_err-check_length : goal.returns-in_err-check_length
 returns-in_err-check_length c = record { answer = search rules; law = rosters_are_lists_laid_down }

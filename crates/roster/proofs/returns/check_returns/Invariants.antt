@@ -7,5 +7,5 @@ use Rattle.roster.proofs.returns.check_returns.Given as goal
 abbrev pub invariant-loop-party : goal.invariant-loop-party
 invariant-loop-party l =
     earliest l.party
-    (λ i. earliest (length (get_or (lists_of l.own_val) i [])) (return_fault (lists_of l.back) (l.first + i) i (get_or (lists_of l.own_val) i [])))
+    (λ i. earliest (length (get_or (lists_of l.own) i [])) (return_fault (lists_of l.back) (l.first + i) i (get_or (lists_of l.own) i [])))
     ≡ None
