@@ -11,6 +11,7 @@ use commands::Command;
 use reports::HELP;
 use std::fs::File;
 use std::io::Read;
+use std::process::ExitCode;
 use std::{env, io};
 use troubles::Trouble;
 
@@ -55,10 +56,13 @@ fn run(rt: &HostRuntime) -> Result<(), Trouble> {
     Ok(())
 }
 
-fn main(rt: HostRuntime) -> Result<(), Trouble> {
-    let done = run(&rt);
-    if let Err(trouble) = &done {
-        eprintln!(rt; "planner: {trouble}")?;
+// A reason to give up is printed as one line, and ends the program with status 1.
+fn main(rt: HostRuntime) -> io::Result<ExitCode> {
+    match run(&rt) {
+        Ok(()) => Ok(ExitCode::SUCCESS),
+        Err(trouble) => {
+            eprintln!(rt; "planner: {trouble}")?;
+            Ok(ExitCode::FAILURE)
+        }
     }
-    done
 }

@@ -15,7 +15,7 @@ loop-at-preserved c =
     let grown = c.in_ok-push.ensures.bytes in
     let space = c.in_ok-push.ensures.ascii (omega arith) in
     let t = c.args.text.now in
-    let k = c.loop-at.-at in
+    let k = c.loop-at._at in
     grown
     ∙ ap (λ xs. xs ++ encode 32) c.loop-at.invariant
     ∙ ap (λ xs. (t ++ replicate k 32) ++ xs) space
@@ -24,5 +24,5 @@ loop-at-preserved c =
 pub returns : goal.returns
 returns c =
     let t = c.args.text.now in
-    let end : c.loop-at.-at ≡ c.args.width - length t = omega arith in
+    let end : c.loop-at._at ≡ c.args.width - length t = omega arith in
     c.loop-at.invariant ∙ ap (λ k. t ++ replicate k 32) end

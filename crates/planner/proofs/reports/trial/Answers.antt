@@ -9,7 +9,7 @@ use Rattle.planner.proofs.reports.trial.Goals as goal
 pub returns : goal.returns
 returns g c =
     let L = g.L.Lists.meaning c.args.lists.now in
-    let p = partner_in (vec_items c.args.crew_best_in_the_end.now.plan) c.args.crew_best_in_the_end.now.side in
+    let p = partner_in (vec_items c.args.crew_best.now.plan) c.args.crew_best.now.side in
     let q = partner_in (vec_items c.args.site_best.now.plan) c.args.site_best.now.side in
     let counts = c.as_str.result.now in
     let crews = c.as_str-2.result.now in

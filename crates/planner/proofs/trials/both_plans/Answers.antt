@@ -6,7 +6,7 @@ use Rattle.planner.proofs.trials.both_plans.Goals as goal
 pub returns : goal.returns
 returns g c =
     let L = g.L.Lists.meaning c.args.lists.now in
-    let P = vec_items c.in_ok-crew_best.crew_best_in_the_end.plan in
+    let P = vec_items c.in_ok-crew_best.crew_best.plan in
     let Q = vec_items c.in_ok-site_best.site_best.plan in
     let crews = c.in_ok-crew_best.ensures in
     let sites = c.in_ok-site_best.ensures in
