@@ -113,6 +113,7 @@ ends-plan ends_plan
 ends-steady ends_steady
 entries-apart entries_apart
 entries-length entries_length
+entriesIn entries_in
 entry-below entry_below
 entry-had entry_had
 entry-high entry_high
@@ -145,10 +146,10 @@ four-back four_back
 fourAt four_at
 fourBytes four_bytes
 fourth-byte fourth_byte
-getD-place get_d_place
-getD-turn get_d_turn
-getD-turns get_d_turns
-getD-turns-past get_d_turns_past
+getD-place get_or_place
+getD-turn get_or_turn
+getD-turns get_or_turns
+getD-turns-past get_or_turns_past
 given-none given_none
 given-some given_some
 given-up given_up
@@ -234,6 +235,7 @@ listed-copy listed_copy
 listed-entry listed_entry
 listed-own listed_own
 listsIn lists_in
+listsOn lists_on
 lower-entry lower_entry_lem
 lower-entry-own lower_entry_own
 lower-held lower_held

@@ -1,5 +1,5 @@
 // The ring: every party names the whole other side, going round from a start of its own.
-ghost use Rattle.std.specs.Prelude.{◌≡◌, ◌+◌, ◌-◌, ◌%◌, ◌^◌, ◌<◌, ◌≤◌, ltb, if◌then◌else◌, MatchResult, nat_lt};
+ghost use Rattle.std.specs.Prelude.{◌≡◌, ◌+◌, ◌-◌, ◌%◌, ◌^◌, ◌<◌, ◌≤◌, if◌then◌else◌, MatchResult, nat_lt};
 ghost use Rattle.lists.specs.Rings.{ring_lists, shift_of};
 ghost use Rattle.lists.specs.Evidence.Rings.{ring_lawful};
 
@@ -43,7 +43,7 @@ impl Ring {
 
     // How many parties the party of a number names.
     fn width(&self, number: u16) -> u16
-        ensures { result ≡ (if ltb number self.now.size then self.now.size else 0) }
+        ensures { result ≡ (if nat_lt number self.now.size then self.now.size else 0) }
     {
         if self.has(number) { self.parties() } else { 0 }
     }

@@ -1,9 +1,9 @@
 -- The vote of a party between two partners, and the lead of a plan turned round.
-use Rattle.std.proofs.Common.{◌≡◌, ℕ, zero, suc, ◌<◌, Bool, true, false, cond, List, length, get_or, ℤ, pos, negsuc, neg_ℤ, sym, refl, ap, ◌∙◌, arith}
+use Rattle.std.proofs.Common.{◌≡◌, ℕ, zero, suc, ◌<◌, Bool, true, false, cond, List, length, get_or, pos, negsuc, neg_ℤ, sym, refl, ap, ◌∙◌, arith}
 use Rattle.std.proofs.lemmas.Int.{ints}
 use Rattle.std.proofs.lemmas.Bool.Decides.{nat_tests}
 use Rattle.lists.specs.Rankings.{Rankings, ranks, place, size}
-use Rattle.lists.specs.Evidence.Places.{get_d_place}
+use Rattle.lists.specs.Evidence.Places.{get_or_place}
 use Rattle.lists.specs.declared.parties.Side.{Side}
 use Rattle.lists.specs.declared.parties.Side.TheVariants.{Crew, Site}
 use Rattle.matching.specs.Leads.{LeadIsAntisymmetric}
@@ -29,7 +29,7 @@ pub vote_apart : (xs : List ℕ) (p q : ℕ) → place xs p < length xs → ((k 
     vote xs (suc p) q ≡ cond (likes xs (suc p) q) (pos 1) (negsuc 0)
 vote_apart xs p zero named others apart = refl
 vote_apart xs p (suc q) named others apart =
-    let differ : place xs p ≡ place xs q → ⊥ = λ e. apart (ap suc (sym (get_d_place xs q (others q refl)) ∙ ap (λ k. get_or xs k 0) (sym e) ∙ get_d_place xs p named)) in
+    let differ : place xs p ≡ place xs q → ⊥ = λ e. apart (ap suc (sym (get_or_place xs q (others q refl)) ∙ ap (λ k. get_or xs k 0) (sym e) ∙ get_or_place xs p named)) in
     grind (arith, nat_tests)
 
 vote_turned : (xs : List ℕ) (p q : ℕ) → vote xs q p ≡ neg_ℤ (vote xs p q)

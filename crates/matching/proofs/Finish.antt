@@ -3,7 +3,7 @@ use Rattle.std.proofs.Common.{◌≡◌, ℕ, zero, suc, ◌<◌, ◌≤◌, ltb
 use Rattle.std.proofs.lemmas.List.{ext_get_or}
 use Rattle.std.proofs.lemmas.Bool.{cases_lt, lt-ltb, le-ltb, cond-true, cond-false}
 use Rattle.lists.specs.Rankings.{Rankings, Lawful, Names, ranks, place, size}
-use Rattle.lists.specs.Evidence.Places.{get_d_place, place_first}
+use Rattle.lists.specs.Evidence.Places.{get_or_place, place_first}
 use Rattle.lists.specs.declared.parties.Side.TheVariants.{Crew, Site}
 use Rattle.matching.specs.Plans.{With, Listed, PlanOn}
 use Rattle.matching.specs.Stability.{Blocks, Stable, CrewBest, TheCrewBest}
@@ -58,7 +58,7 @@ module _ (L : Rankings) (lawful : Lawful L) (refusals holder rank : ℕ → ℕ)
       beaten h =
           let xs = ranks L Crew i in
           let old = quiet.refused i (place xs j) h in
-          let is : get_or xs (place xs j) 0 ≡ j = get_d_place xs j blocks.0.0 in
+          let is : get_or xs (place xs j) 0 ≡ j = get_or_place xs j blocks.0.0 in
           let held : holder j ≡ suc old.0 = subst (λ v. holder v ≡ suc old.0) is old.1 in
           let before = subst (λ v. place (ranks L Site v) old.0 < place (ranks L Site v) i) is old.2 in
           let pair : With P Crew old.0 j = subst (λ v. With P Crew old.0 v) (quiet.holds j old.0 held) (entry_had old.0 (quiet.begun j old.0 held) (quiet.asked j old.0 held)) in
@@ -79,7 +79,7 @@ module _ (L : Rankings) (lawful : Lawful L) (refusals holder rank : ℕ → ℕ)
       let xs = ranks L Crew i in
       let named = (stable.plan.listed i j w).0 in
       ⊎_elim
-      (λ h. absurd (quiet.unlost Q stable i (place xs j) h (subst (λ v. With Q Crew i v) (sym (get_d_place xs j named)) w)))
+      (λ h. absurd (quiet.unlost Q stable i (place xs j) h (subst (λ v. With Q Crew i v) (sym (get_or_place xs j named)) w)))
       (λ h. let m : refusals i < length xs = omega arith in
       let first = place_first xs (get_or xs (refusals i) 0) (refusals i) m refl in
       (get_or xs (refusals i) 0, entry_had i (naming_begun i j named) m, omega arith))
@@ -99,7 +99,7 @@ shared L P Q p q i j w =
     let level : place xs mine.0 ≡ place xs j = omega (arith, mine.2) in
     let listed = (p.stable.plan.listed i mine.0 mine.1).0 in
     let named = (q.stable.plan.listed i j w).0 in
-    let is : mine.0 ≡ j = sym (get_d_place xs mine.0 listed) ∙ ap (λ v. get_or xs v 0) level ∙ get_d_place xs j named in
+    let is : mine.0 ≡ j = sym (get_or_place xs mine.0 listed) ∙ ap (λ v. get_or xs v 0) level ∙ get_or_place xs j named in
     subst (λ v. With P Crew i v) is mine.1
 
 pub one_crew_best : (L : Rankings) (P Q : List ℕ) → CrewBest L P → CrewBest L Q → P ≡ Q

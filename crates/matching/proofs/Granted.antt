@@ -1,5 +1,5 @@
 -- What a call's answer tells of the fault that it is made from.
-use Rattle.std.proofs.Common.{◌≡◌, ℕ, Some, None, Ok, Err, Option, sym, refl, ap, arith}
+use Rattle.std.proofs.Common.{◌≡◌, ℕ, Some, None, Ok, Err, Option, refl, arith}
 use Rattle.lists.specs.Order.{granted}
 
 module _ {X F : Type 0} (o : Option F) (x : X) where

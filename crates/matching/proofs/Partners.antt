@@ -1,10 +1,9 @@
 -- Whom a plan gives a party, read from either side.
-use Rattle.std.proofs.Common.{◌≡◌, ℕ, zero, suc, ◌<◌, ◌≤◌, Bool, true, false, cond, ltb, List, [], length, get_or, sym, refl, ap, ◌∙◌, ⊎_elim, arith}
+use Rattle.std.proofs.Common.{◌≡◌, ℕ, zero, suc, ◌<◌, true, ltb, List, [], length, get_or, sym, refl, ap, ◌∙◌, ⊎_elim, arith}
 use Rattle.std.proofs.lemmas.List.{get_or_past}
 use Rattle.std.proofs.lemmas.Bool.{cases_lt, cond-true, cond_both, lt-ltb, ltb-true}
-use Rattle.lists.specs.Rankings.{Rankings, Names, half, ranks, place, size}
-use Rattle.lists.specs.Sides.{other}
-use Rattle.lists.specs.Evidence.Places.{get_d_place, place_first}
+use Rattle.lists.specs.Rankings.{Rankings, Names, half, place, size}
+use Rattle.lists.specs.Evidence.Places.{get_or_place, place_first}
 use Rattle.lists.specs.declared.parties.Side.{Side}
 use Rattle.lists.specs.declared.parties.Side.TheVariants.{Crew, Site}
 use Rattle.matching.specs.Plans.{With, PlanOn, partner_of, placed}
@@ -23,7 +22,7 @@ pub partner_with : (P : List ℕ) (s : Side) (i j : ℕ) → partner_of P s i �
 partner_with P Crew i j e = e
 partner_with P Site j i e =
     cond_both (ltb (place P (suc j)) (length P)) (suc (place P (suc j))) 0 (λ k. k ≡ suc i → get_or P i 0 ≡ suc j)
-    (λ t f. let there = get_d_place P (suc j) (ltb-true (place P (suc j)) (length P) t) in let is : place P (suc j) ≡ i = omega arith in sym (ap (λ k. get_or P k 0) is) ∙ there)
+    (λ t f. let there = get_or_place P (suc j) (ltb-true (place P (suc j)) (length P) t) in let is : place P (suc j) ≡ i = omega arith in sym (ap (λ k. get_or P k 0) is) ∙ there)
     (λ _ f. absurd (omega arith))
     e
 
@@ -35,7 +34,7 @@ module _ (L : Rankings) (P : List ℕ) (plan : PlanOn L P) where
       let first = place_first P (suc j) i here w in
       let low : place P (suc j) < length P = omega arith in
       cond-true (ltb (place P (suc j)) (length P)) (suc (place P (suc j))) 0 (lt-ltb (place P (suc j)) (length P) low)
-      ∙ ap suc (plan.single j (place P (suc j)) i (get_d_place P (suc j) low) w)
+      ∙ ap suc (plan.single j (place P (suc j)) i (get_or_place P (suc j) low) w)
 
   -- a party and its partner name each other
   pub with_names : (s : Side) (i j : ℕ) → With P s i j → Names L s i j

@@ -1,16 +1,16 @@
 -- What the checks of a plan find, crew by crew and as a whole.
-use Rattle.std.proofs.Common.{◌≡◌, ℕ, zero, suc, ◌+◌, ◌<◌, ◌≤◌, Bool, true, false, cond, eqb, ltb, leb, List, length, get_or, set, replicate, Some, None, Option, sym, refl, ap, ◌∙◌, subst, ⊎_elim, arith, length-set}
+use Rattle.std.proofs.Common.{◌≡◌, ℕ, zero, suc, ◌+◌, ◌<◌, ◌≤◌, Bool, true, false, eqb, ltb, leb, List, length, get_or, set, replicate, Some, None, sym, refl, ap, ◌∙◌, subst, ⊎_elim, arith, length-set}
 use Rattle.std.proofs.lemmas.List.{get_or-set_same, get_or-set_other}
-use Rattle.std.proofs.lemmas.Bool.{cases_eq, cases_lt, eqb-true, leb-true, ltb-true, eq-eqb, ne_eqb, le-leb, lt-ltb, le-ltb, cond-false}
+use Rattle.std.proofs.lemmas.Bool.{cases_eq, eqb-true, leb-true, ltb-true, eq-eqb, ne_eqb, le-leb, lt-ltb, le-ltb, cond-false}
 use Rattle.std.proofs.lemmas.Bool.Decides.{nat_tests}
 use Rattle.lists.specs.Order.{or_else, unless}
-use Rattle.lists.specs.Rankings.{Rankings, Lawful, ranks, place, size}
-use Rattle.lists.specs.Evidence.Places.{get_d_place, place_first, place_le}
+use Rattle.lists.specs.Rankings.{Rankings, ranks, place, size}
+use Rattle.lists.specs.Evidence.Places.{get_or_place, place_first}
 use Rattle.lists.specs.declared.faults.Which.{Which}
 use Rattle.lists.specs.declared.faults.Fault.TheVariants.{HandedLength, NoSuchSite, SiteTaken, PairNotListed}
 use Rattle.lists.specs.declared.parties.Side.TheVariants.{Crew, Site}
 use Rattle.matching.specs.Checks.{named, free, crew_fault, plan_fault, length_fault, PassingIsBeingAPlan, TakenBelow, with_taken}
-use Rattle.matching.specs.Plans.{With, PlanOn}
+use Rattle.matching.specs.Plans.{PlanOn}
 use Rattle.lists.proofs.Earliest.{or_none, none_first, none_second, earliest_each, each_earliest}
 use Rattle.matching.proofs.Partners.{within_plan}
 
@@ -88,14 +88,14 @@ passing_is_a_plan L lawful P w = (sound, passing)
           first = λ j f.
               let low = place_first P (suc j) i (within_plan P i j f) f in
               let here = within_plan P i j f in
-              omega (arith, plan.single j (place P (suc j)) i (get_d_place P (suc j) (omega arith)) f);
+              omega (arith, plan.single j (place P (suc j)) i (get_or_place P (suc j) (omega arith)) f);
         })))
       where
         exists : (i n : ℕ) → get_or P i 0 ≡ n → n ≤ size L Site
         exists i zero e = omega arith
         exists i (suc j) e =
             let n = (plan.listed i j e).0 in
-            omega (arith, lawful.within Crew i (place (ranks L Crew i) j) n, get_d_place (ranks L Crew i) j n)
+            omega (arith, lawful.within Crew i (place (ranks L Crew i) j) n, get_or_place (ranks L Crew i) j n)
 
 -- no crew has a site yet
 pub taken_none : (P : List ℕ) (sites : List Bool) → sites ≡ replicate 500 false → TakenBelow P 0 sites
@@ -116,7 +116,7 @@ taken_more P i sites here few below = more (get_or P i 0) refl few
     -- only what is written for a crew changes with it
     others : (j : ℕ) → (get_or P i 0 ≡ suc j → ⊥) → ltb (place P (suc j)) i ≡ ltb (place P (suc j)) (i + 1)
     others j d =
-        let differ : place P (suc j) ≡ i → ⊥ = λ e. d (sym (ap (λ k. get_or P k 0) e) ∙ get_d_place P (suc j) (omega arith)) in
+        let differ : place P (suc j) ≡ i → ⊥ = λ e. d (sym (ap (λ k. get_or P k 0) e) ∙ get_or_place P (suc j) (omega arith)) in
         grind (arith, nat_tests)
 
     more : (n : ℕ) → get_or P i 0 ≡ n → n ≤ 500 → TakenBelow P (i + 1) (with_taken sites n)

@@ -1,21 +1,18 @@
 -- The plan read off a stable plan of the two-level lists is a plan on the lists and keeps the level rules.
-use Rattle.std.proofs.Common.{◌≡◌, ℕ, zero, suc, ◌+◌, ◌*◌, ◌<◌, ◌≤◌, Bool, true, false, cond, eqb, ltb, leb, ◌⊎◌, List, [], ◌∷◌, length, get_or, sym, refl, ap, ◌∙◌, subst, inl, inr, ⊎_elim, arith}
+use Rattle.std.proofs.Common.{◌≡◌, ℕ, zero, suc, ◌<◌, ◌≤◌, true, false, eqb, leb, ◌⊎◌, List, [], ◌∷◌, length, get_or, sym, refl, ap, ◌∙◌, subst, inl, inr, ⊎_elim, arith}
 use Rattle.std.proofs.lemmas.List.FromFn.{length-map-range_with_len, get_or-map-range_with_len}
-use Rattle.std.proofs.lemmas.List.{get_or_past}
-use Rattle.std.proofs.lemmas.Bool.{cases_Bool, cases_eq, cond-true, cond-false, cond_both, eq-eqb, ne_eqb, le-leb, lt-leb, ltb-true, lt-ltb}
+use Rattle.std.proofs.lemmas.Bool.{cases_Bool, cases_eq, cond-true, cond-false, eq-eqb, ne_eqb, le-leb, lt-leb, ltb-true}
 use Rattle.lists.specs.Rankings.{Rankings, Lawful, Names, ranks, place, size}
-use Rattle.lists.specs.Evidence.Places.{get_d_place, place_first}
-use Rattle.lists.specs.declared.parties.Side.{Side}
 use Rattle.lists.specs.declared.parties.Side.TheVariants.{Crew, Site}
 use Rattle.matching.specs.Deferred.{crew_best_of}
-use Rattle.matching.specs.Levels.{Apart, LevelRules, level_of, level_held, favours}
+use Rattle.matching.specs.Levels.{LevelRules, level_of, level_held, favours}
 use Rattle.matching.specs.Plans.{With, Listed, PlanOn, partner_of}
 use Rattle.matching.specs.Settled.{real_site_of, either_site, site_by_copies, level_by_copies, sites_in, levels_in, settled_plan_of, settled_levels_of, SettledPlanIsDominant}
-use Rattle.matching.specs.Stability.{Rather, Blocks, Stable}
-use Rattle.matching.specs.TwoLevels.{lower, upper, stand_in_of, lower_list, upper_list, crew_list, split_list, own_list, site_list, fits_two_levels, crew_total, site_total, two_levels_of}
+use Rattle.matching.specs.Stability.{Rather, Stable}
+use Rattle.matching.specs.TwoLevels.{lower, upper, stand_in_of, lower_list, upper_list, split_list, own_list, fits_two_levels, crew_total, two_levels_of}
 use Rattle.matching.specs.Votes.{likes}
-use Rattle.matching.specs.Evidence.Halves.{lower_once, upper_once, lower_not_upper}
-use Rattle.matching.specs.Evidence.TwoLevels.{Sized, sized, by_crew, by_site, size_crews, size_sites, ranks_crew, ranks_site, crew_lower, crew_upper, site_split, site_own, length_split, place_split_lower, place_split_upper, place_own_lower, place_own_upper, length_lower, place_lower, place_lower_own, place_upper, place_upper_own, two_levels_lawful}
+use Rattle.matching.specs.Evidence.Halves.{lower_not_upper}
+use Rattle.matching.specs.Evidence.TwoLevels.{Sized, sized, by_crew, size_crews, ranks_crew, ranks_site, crew_lower, crew_upper, site_split, site_own, place_split_lower, place_split_upper, place_own_lower, place_own_upper, length_lower, place_lower, place_lower_own, place_upper, place_upper_own, two_levels_lawful}
 use Rattle.matching.specs.Evidence.Joins.{each_join, each_one, each_named}
 use Rattle.matching.proofs.Partners.{naming, within_plan, partner_with, with_partner}
 use Rattle.matching.proofs.Deferral.{deferred_best}

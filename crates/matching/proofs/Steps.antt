@@ -2,7 +2,7 @@
 use Rattle.std.proofs.Common.{◌≡◌, ℕ, suc, ◌<◌, ◌≤◌, ◌⊎◌, List, length, get_or, sym, refl, ap, ◌∙◌, subst, inl, inr, ⊎_elim, arith}
 use Rattle.std.proofs.lemmas.Bool.{cases_lt, cases_eq}
 use Rattle.lists.specs.Rankings.{Rankings, Lawful, Names, ranks, place}
-use Rattle.lists.specs.Evidence.Places.{get_d_place, place_first, place_at, Distinct}
+use Rattle.lists.specs.Evidence.Places.{get_or_place, place_first, place_at, Distinct}
 use Rattle.lists.specs.declared.parties.Side.{Side}
 use Rattle.lists.specs.declared.parties.Side.TheVariants.{Crew, Site}
 use Rattle.matching.specs.Plans.{With, Listed}
@@ -41,7 +41,7 @@ module _ (L : Rankings) (lawful : Lawful L) where
           let ys = ranks L Crew y in
           let at : place ys j ≡ r = place_at ys (distinct Crew y) j r asked entry in
           let listed = (stable.plan.listed y k w).0 in
-          let found : get_or ys (place ys k) 0 ≡ k = get_d_place ys k listed in
+          let found : get_or ys (place ys k) 0 ≡ k = get_or_place ys k listed in
           ⊎_elim
           (λ lower. absurd (kept (place ys k) lower (subst (λ v. With Q Crew y v) (sym found) w)))
           (λ same. let e : place ys k ≡ r = omega arith in

@@ -4,7 +4,7 @@ use mathlib.Core.Path.{subst₃}
 use Rattle.std.proofs.lemmas.List.{get_or-set_same, get_or-set_other}
 use Rattle.std.proofs.lemmas.Bool.{ltb-true, ltb-false}
 use Rattle.lists.specs.Rankings.{Rankings, Lawful, Names, ranks, place, size}
-use Rattle.lists.specs.Evidence.Places.{get_d_place}
+use Rattle.lists.specs.Evidence.Places.{get_or_place}
 use Rattle.lists.specs.declared.parties.Side.TheVariants.{Crew, Site}
 use Rattle.matching.specs.Acceptance.{AskingIn, Asks, Turned, unrefused}
 use Rattle.matching.specs.Answers.{refused_of, kept_of, counted, held_by, held_at}
@@ -114,7 +114,7 @@ module _ (L : Rankings) (lawful : Lawful L) (refusals : List ℕ) (holds : List 
           let b_at = old.holds j b held in
           let b-listed : Names L Site j b = subst (λ v. Names L Site v b) b_at (listed_entry L lawful b (get_or refusals b 0) (old.asked j b held)).1 in
           let differ : place (ranks L Site j) a ≡ place (ranks L Site j) b → ⊥ =
-          λ f. apart (sym (get_d_place (ranks L Site j) b b-listed) ∙ ap (λ v. get_or (ranks L Site j) v 0) (sym f) ∙ get_d_place (ranks L Site j) a listed) in
+          λ f. apart (sym (get_or_place (ranks L Site j) b b-listed) ∙ ap (λ v. get_or (ranks L Site j) v 0) (sym f) ∙ get_or_place (ranks L Site j) a listed) in
           refused b a (record { crew = a; place = p }) (old.begun j b held) before.begun apart (old.asked j b held) b_at left (sym at)
           (omega arith) refl ranked (λ i _ d. d) (inl refl) (λ s d f. d (sym (old.holds s b f) ∙ b_at))
 

@@ -1,5 +1,5 @@
 -- What the two-level lists answer, by what the lists below answer.
-use Rattle.std.proofs.Common.{◌≡◌, ℕ, suc, ◌+◌, ◌-◌, ◌*◌, ◌/◌, ◌%◌, ◌<◌, ◌≤◌, cond, ltb, ◌⊎◌, List, [], ◌∷◌, ◌++◌, map, length, get_or, Some, None, sym, refl, ap, ◌∙◌, subst, inl, inr, ⊎_elim, arith}
+use Rattle.std.proofs.Common.{◌≡◌, ℕ, ◌+◌, ◌-◌, ◌*◌, ◌/◌, ◌%◌, ◌<◌, ◌≤◌, cond, ltb, List, [], ◌∷◌, map, length, get_or, Some, None, sym, refl, ap, ◌∙◌, ⊎_elim, arith}
 use lib.ListN.{length-map}
 use Rattle.std.proofs.lemmas.List.{get_or_append_left, get_or-append_right, get_or-map, get_or_push, get_or_past}
 use Rattle.std.proofs.lemmas.Bool.{cases_lt}
@@ -7,9 +7,9 @@ use Rattle.lists.specs.Rankings.{Rankings, Lawful, half, ranks, place, size, ent
 use Rattle.lists.specs.Evidence.Places.{gives_some, gives_none}
 use Rattle.lists.specs.declared.parties.Side.{Side}
 use Rattle.lists.specs.declared.parties.Side.TheVariants.{Crew, Site}
-use Rattle.matching.specs.TwoLevels.{lower, upper, stand_in_of, lower_list, upper_list, crew_list, site_list, split_list, two_levels_of, crew_total, site_total}
+use Rattle.matching.specs.TwoLevels.{lower, upper, stand_in_of, lower_list, crew_list, site_list, split_list, two_levels_of, crew_total, site_total}
 use Rattle.matching.specs.Evidence.Halves.{lower_or_upper, lower_not_upper, upper_once}
-use Rattle.matching.specs.Evidence.Joins.{place_front, place_behind, place_image, place_tail, no_image}
+use Rattle.matching.specs.Evidence.Joins.{place_behind, place_image, place_tail, no_image}
 use Rattle.matching.specs.Evidence.TwoLevels.{length_split, place_split_lower, place_split_upper, length_lower, place_lower, place_lower_own, crew_lower, crew_upper, size_crews, size_sites, ranks_crew, ranks_site}
 
 -- two tests that hold together, with the same value

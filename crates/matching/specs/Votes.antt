@@ -1,5 +1,5 @@
 -- How the parties vote between two plans, and what makes a plan lose or dominate.
-use Rattle.std.specs.Prelude.{ℕ, zero, suc, ◌+◌, ◌<◌, Bool, true, false, cond, not, ◌&&◌, List, ℤ, pos, negsuc, ◌+ℤ◌, ◌≤ℤ◌, ◌<ℤ◌, nat_lt}
+use Rattle.std.specs.Prelude.{ℕ, zero, suc, ◌+◌, ◌<◌, Bool, true, false, cond, not, ◌&&◌, List, ℤ, pos, negsuc, ◌+ℤ◌, ◌<ℤ◌, nat_lt}
 use Rattle.lists.specs.Rankings.{Rankings, ranks, place, size}
 use Rattle.lists.specs.declared.parties.Side.{Side}
 use Rattle.lists.specs.declared.parties.Side.TheVariants.{Crew, Site}

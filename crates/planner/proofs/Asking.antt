@@ -1,5 +1,5 @@
 -- What asking for something says of the words.
-use Rattle.std.proofs.Common.{◌≡◌, ℕ, ◌≤◌, ◌⊎◌, List, [], ◌∷◌, map, length, get_or, Some, None, codes, Option, sym, refl, ap, subst, ap₂, inl, inr, arith}
+use Rattle.std.proofs.Common.{◌≡◌, ℕ, ◌≤◌, ◌⊎◌, List, [], ◌∷◌, map, length, get_or, None, codes, Option, sym, refl, ap, subst, ap₂, inl, inr, arith}
 use Rattle.planner.specs.declared.commands.Command.{Command}
 use Rattle.planner.specs.declared.commands.Command.TheVariants.{Help, Input, File, Ring}
 use Rattle.planner.specs.Commands.{Writes, Asks, Found}

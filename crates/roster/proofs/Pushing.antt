@@ -3,7 +3,7 @@ use Rattle.std.proofs.Common.{◌≡◌, ℕ, ◌+◌, ◌<◌, ◌≤◌, ◌�
 use Rattle.std.proofs.lemmas.List.{take_more_set, length-set, length_push, length-take-le, get_or_append_left, get_or_push, get_or-set_same, get_or-set_other}
 use Rattle.std.proofs.lemmas.Bool.{cases_lt, cases_eq}
 use Rattle.lists.specs.Rankings.{place, place_of}
-use Rattle.lists.specs.Evidence.Places.{get_d_place, place_first, no_place, gives_some, gives_none}
+use Rattle.lists.specs.Evidence.Places.{get_or_place, place_first, no_place, gives_some, gives_none}
 use Rattle.roster.specs.declared.rows.Row.{Row}
 use Rattle.roster.specs.Held.{list_of, Placed}
 use Rattle.roster.proofs.Writes.{each_set}
@@ -26,7 +26,7 @@ module _ (xs : List ℕ) (v : ℕ) (absent : length xs ≤ place xs v) where
       let long = length_push xs v in
       let most = place_first (xs ++ v ∷ []) v (length xs) (omega arith) last in
       ⊎_elim
-      (λ h. absurd (let before = place_first xs v (place (xs ++ v ∷ []) v) h (sym (front (place (xs ++ v ∷ []) v) h) ∙ get_d_place (xs ++ v ∷ []) v (omega arith)) in omega arith))
+      (λ h. absurd (let before = place_first xs v (place (xs ++ v ∷ []) v) h (sym (front (place (xs ++ v ∷ []) v) h) ∙ get_or_place (xs ++ v ∷ []) v (omega arith)) in omega arith))
       (λ h. le_antisymm most h)
       (cases_lt (place (xs ++ v ∷ []) v) (length xs))
 
@@ -45,8 +45,8 @@ module _ (xs : List ℕ) (v : ℕ) (absent : length xs ≤ place xs v) where
       stands : place xs w < length xs → place_of (xs ++ v ∷ []) w ≡ place_of xs w
       stands h =
           let l = long in
-          let most = place_first (xs ++ v ∷ []) w (place xs w) (omega arith) (front (place xs w) h ∙ get_d_place xs w h) in
-          let least = place_first xs w (place (xs ++ v ∷ []) w) (omega arith) (sym (front (place (xs ++ v ∷ []) w) (omega arith)) ∙ get_d_place (xs ++ v ∷ []) w (omega arith)) in
+          let most = place_first (xs ++ v ∷ []) w (place xs w) (omega arith) (front (place xs w) h ∙ get_or_place xs w h) in
+          let least = place_first xs w (place (xs ++ v ∷ []) w) (omega arith) (sym (front (place (xs ++ v ∷ []) w) (omega arith)) ∙ get_or_place (xs ++ v ∷ []) w (omega arith)) in
           let same : place (xs ++ v ∷ []) w ≡ place xs w = omega arith in
           sym (gives_some (place (xs ++ v ∷ []) w) (length (xs ++ v ∷ [])) (place (xs ++ v ∷ []) w) (place xs w) (omega arith) (sym same))
           ∙ gives_some (place xs w) (length xs) (place xs w) (place xs w) h refl

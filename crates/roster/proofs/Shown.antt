@@ -4,7 +4,7 @@ use Rattle.std.proofs.lemmas.List.FromFn.{get_or-map-range_with_len, length-map-
 use Rattle.std.proofs.lemmas.List.{get_or_past}
 use Rattle.std.proofs.lemmas.Bool.{cases_lt, cases_order, ltb-true, leb-true}
 use Rattle.lists.specs.Rankings.{Rankings, Lawful, place}
-use Rattle.lists.specs.Evidence.Places.{get_d_place, place_first}
+use Rattle.lists.specs.Evidence.Places.{get_or_place, place_first}
 use Rattle.lists.specs.declared.faults.Fault.TheVariants.{EntryTooHigh, EntryRepeated, EntryUnreturned}
 use Rattle.lists.specs.declared.parties.Side.TheVariants.{Crew, Site}
 use Rattle.roster.specs.declared.spans.Span.{Span}
@@ -105,7 +105,7 @@ returned_none own back first e i j h =
     let k = place xs j in
     let f = earliest_each (length own) (λ (p : ℕ). earliest (length (get_or own p [])) (return_fault back (first + p) p (get_or own p []))) e i (party_below own i k h) in
     let g = earliest_each (length xs) (return_fault back (first + i) i xs) f k h in
-    subst (λ (v : ℕ). place (get_or back v []) i < length (get_or back v [])) (get_d_place xs j h)
+    subst (λ (v : ℕ). place (get_or back v []) i < length (get_or back v [])) (get_or_place xs j h)
     (ltb-true _ _ (unless_none _ (EntryUnreturned (first + i) (6 + 2 * k)) g))
 
 -- lawful, side by side

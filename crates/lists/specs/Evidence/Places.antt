@@ -11,12 +11,12 @@ place_le (x ∷ xs) v =
     cond_both (x == v) zero (suc (place xs v)) (λ p. p ≤ suc (length xs)) (λ _. omega arith) (λ _. omega arith)
 
 -- what stands at the place
-pub get_d_place : (xs : List ℕ) (v : ℕ) → place xs v < length xs → slice_index xs (place xs v) ≡ v
-get_d_place [] v = λ h. omega arith
-get_d_place (x ∷ xs) v =
+pub get_or_place : (xs : List ℕ) (v : ℕ) → place xs v < length xs → slice_index xs (place xs v) ≡ v
+get_or_place [] v = λ h. omega arith
+get_or_place (x ∷ xs) v =
     cond_both (x == v) zero (suc (place xs v)) (λ p. p < suc (length xs) → slice_index (x ∷ xs) p ≡ v)
     (λ e _. eqb-true x v e)
-    (λ _ h. get_d_place xs v (omega arith))
+    (λ _ h. get_or_place xs v (omega arith))
 
 -- it stands nowhere before
 pub place_first : (xs : List ℕ) (v k : ℕ) → k < length xs → slice_index xs k ≡ v → place xs v ≤ k
@@ -35,12 +35,12 @@ Distinct xs = (k m : ℕ) → k < length xs → m < length xs → slice_index xs
 pub place_at : (xs : List ℕ) → Distinct xs → (v k : ℕ) → k < length xs → slice_index xs k ≡ v → place xs v ≡ k
 place_at xs once v k h e =
     let first = place_first xs v k h e in
-    once (place xs v) k (omega arith) h (get_d_place xs v (omega arith) ∙ sym e)
+    once (place xs v) k (omega arith) h (get_or_place xs v (omega arith) ∙ sym e)
 
 -- a number that stands nowhere has no place
 pub no_place : (xs : List ℕ) (v : ℕ) → ((k : ℕ) → k < length xs → slice_index xs k ≢ v) → length xs ≤ place xs v
 no_place xs v none =
-    ⊎_elim (λ h. absurd (none (place xs v) h (get_d_place xs v h))) (λ h. h) (cases_lt (place xs v) (length xs))
+    ⊎_elim (λ h. absurd (none (place xs v) h (get_or_place xs v h))) (λ h. h) (cases_lt (place xs v) (length xs))
 
 -- an Option that a test gives, read by its two cases
 module _ {X : Type 0} (k n : ℕ) (x : X) where

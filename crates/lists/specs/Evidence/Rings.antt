@@ -7,7 +7,7 @@ use Rattle.std.proofs.lemmas.List.{get_or_past}
 use Rattle.std.proofs.lemmas.List.FromFn.{length-map-range_with_len, get_or-map-range_with_len}
 use Rattle.lists.specs.Rankings.{Lawful, Names, place, half, ranks, size, entry_at, place_of}
 use Rattle.lists.specs.Rings.{turn, turns, shift_of, ring_lists}
-use Rattle.lists.specs.Evidence.Places.{get_d_place, place_at, no_place, Distinct, gives_some, gives_none}
+use Rattle.lists.specs.Evidence.Places.{get_or_place, place_at, no_place, Distinct, gives_some, gives_none}
 use Rattle.lists.specs.Sides.{other}
 use Rattle.lists.specs.declared.parties.Side.{Side}
 use Rattle.lists.specs.declared.parties.Side.TheVariants.{Crew, Site}
@@ -37,17 +37,17 @@ back_forth n a k h =
 pub length_turn : (n a : ℕ) → length (turn n a) ≡ n
 length_turn n a = length-map-range_with_len (λ k. (a + k) % n) 0 n
 
-pub get_d_turn : (n a k : ℕ) → k < n → slice_index (turn n a) k ≡ (a + k) % n
-get_d_turn n a k h = get_or-map-range_with_len (λ i. (a + i) % n) 0 n k k 0 h (omega arith)
+pub get_or_turn : (n a k : ℕ) → k < n → slice_index (turn n a) k ≡ (a + k) % n
+get_or_turn n a k h = get_or-map-range_with_len (λ i. (a + i) % n) 0 n k k 0 h (omega arith)
 
 pub length_turns : (n shift : ℕ) → length (turns n shift) ≡ n
 length_turns n shift = length-map-range_with_len (λ i. turn n (i + shift)) 0 n
 
-pub get_d_turns : (n shift i : ℕ) → i < n → slice_index_or (turns n shift) i [] ≡ turn n (i + shift)
-get_d_turns n shift i h = get_or-map-range_with_len (λ k. turn n (k + shift)) 0 n i i [] h (omega arith)
+pub get_or_turns : (n shift i : ℕ) → i < n → slice_index_or (turns n shift) i [] ≡ turn n (i + shift)
+get_or_turns n shift i h = get_or-map-range_with_len (λ k. turn n (k + shift)) 0 n i i [] h (omega arith)
 
-pub get_d_turns_past : (n shift i : ℕ) → n ≤ i → slice_index_or (turns n shift) i [] ≡ []
-get_d_turns_past n shift i h = get_or_past (turns n shift) i [] (omega (arith, length_turns n shift))
+pub get_or_turns_past : (n shift i : ℕ) → n ≤ i → slice_index_or (turns n shift) i [] ≡ []
+get_or_turns_past n shift i h = get_or_past (turns n shift) i [] (omega (arith, length_turns n shift))
 
 pub turn_once : (n a : ℕ) → Distinct (turn n a)
 turn_once n a k m hk hm e =
@@ -55,7 +55,7 @@ turn_once n a k m hk hm e =
     let hk' : k < n = omega arith in
     let hm' : m < n = omega arith in
     sym (back_forth n a k hk')
-    ∙ ap (back n a) (sym (get_d_turn n a k hk') ∙ e ∙ get_d_turn n a m hm')
+    ∙ ap (back n a) (sym (get_or_turn n a k hk') ∙ e ∙ get_or_turn n a m hm')
     ∙ back_forth n a m hm'
 
 back_low : (n a v : ℕ) → v < n → back n a v < n
@@ -65,12 +65,12 @@ pub place_turn : (n a v : ℕ) → v < n → place (turn n a) v ≡ back n a v
 place_turn n a v h =
     let low = back_low n a v h in
     let long = length_turn n a in
-    place_at (turn n a) (turn_once n a) v (back n a v) (omega arith) (get_d_turn n a (back n a v) low ∙ forth_back n a v h)
+    place_at (turn n a) (turn_once n a) v (back n a v) (omega arith) (get_or_turn n a (back n a v) low ∙ forth_back n a v h)
 
 pub turn_within : (n a k : ℕ) → k < n → slice_index (turn n a) k < n
 turn_within n a k h =
     let low : (a + k) % n < n = mod-lt (a + k) (let p : 0 < n = omega arith in p) in
-    omega (arith, get_d_turn n a k h)
+    omega (arith, get_or_turn n a k h)
 
 pub place_turn_past : (n a v : ℕ) → n ≤ v → n ≤ place (turn n a) v
 place_turn_past n a v h =
@@ -84,10 +84,10 @@ half_ring n u w Crew = refl
 half_ring n u w Site = refl
 
 pub ranks_ring : (n u w : ℕ) (s : Side) (i : ℕ) → i < n → ranks (ring_lists n u w) s i ≡ turn n (i + shift_of u w s)
-ranks_ring n u w s i h = ap (λ xs. get_or xs i []) (half_ring n u w s) ∙ get_d_turns n (shift_of u w s) i h
+ranks_ring n u w s i h = ap (λ xs. get_or xs i []) (half_ring n u w s) ∙ get_or_turns n (shift_of u w s) i h
 
 pub ranks_ring_past : (n u w : ℕ) (s : Side) (i : ℕ) → n ≤ i → ranks (ring_lists n u w) s i ≡ []
-ranks_ring_past n u w s i h = ap (λ xs. get_or xs i []) (half_ring n u w s) ∙ get_d_turns_past n (shift_of u w s) i h
+ranks_ring_past n u w s i h = ap (λ xs. get_or xs i []) (half_ring n u w s) ∙ get_or_turns_past n (shift_of u w s) i h
 
 pub size_ring : (n u w : ℕ) (s : Side) → size (ring_lists n u w) s ≡ n
 size_ring n u w s = ap length (half_ring n u w s) ∙ length_turns n (shift_of u w s)
@@ -139,7 +139,7 @@ named n u w s i j hi hj =
 
 entry_returned : (n u w : ℕ) (s : Side) (i j : ℕ) → Names (ring_lists n u w) s i j → Names (ring_lists n u w) (other s) j i
 entry_returned n u w s i j h =
-    let is = get_d_place (ranks (ring_lists n u w) s i) j h in
+    let is = get_or_place (ranks (ring_lists n u w) s i) j h in
     let low = entry_low n u w s i (place (ranks (ring_lists n u w) s i) j) h in
     named n u w (other s) j i (omega arith) (has_list n u w s i (place (ranks (ring_lists n u w) s i) j) h)
 
@@ -157,7 +157,7 @@ module _ (n u w : ℕ) (s : Side) (i : ℕ) where
   entry_ring k hi hk =
       let long = length_ring n u w s i hi in
       gives_some k (length (ranks (ring_lists n u w) s i)) (slice_index (ranks (ring_lists n u w) s i) k) ((i + shift_of u w s + k) % n) (omega arith)
-      (sym (ap (λ xs. slice_index xs k) (ranks_ring n u w s i hi) ∙ get_d_turn n (i + shift_of u w s) k hk))
+      (sym (ap (λ xs. slice_index xs k) (ranks_ring n u w s i hi) ∙ get_or_turn n (i + shift_of u w s) k hk))
 
   pub entry_ring_none : (k : ℕ) → (n ≤ i) ⊎ (n ≤ k) → None ≡ entry_at (ranks (ring_lists n u w) s i) k
   entry_ring_none k o =

@@ -1,10 +1,10 @@
 -- Where numbers stand in lists that are put together, and in lists of images.
-use Rattle.std.specs.Prelude.{◌≡◌, ℕ, zero, suc, ◌+◌, ◌-◌, ◌<◌, ◌≤◌, Bool, true, false, cond, ◌⊎◌, List, [], ◌∷◌, ◌++◌, map, length, ◌==◌, ◌≢◌, slice_index, refl}
-use Rattle.std.proofs.Common.{ap, sym, ◌∙◌, subst, inl, inr, ⊎_elim, arith, length-append}
+use Rattle.std.specs.Prelude.{◌≡◌, ℕ, zero, suc, ◌+◌, ◌-◌, ◌<◌, ◌≤◌, List, [], ◌∷◌, ◌++◌, map, length, ◌==◌, ◌≢◌, slice_index, refl}
+use Rattle.std.proofs.Common.{ap, sym, ◌∙◌, subst, ⊎_elim, arith, length-append}
 use Rattle.std.proofs.lemmas.List.{get_or_append_left, get_or-append_right, get_or-map, length-map}
-use Rattle.std.proofs.lemmas.Bool.{cases_lt, cases_eq, cond_both, cond-true, cond-false, eq-eqb, ne_eqb, eqb-true, eqb-false}
+use Rattle.std.proofs.lemmas.Bool.{cases_lt, cases_eq, cond-true, cond-false, eq-eqb, ne_eqb}
 use Rattle.lists.specs.Rankings.{place}
-use Rattle.lists.specs.Evidence.Places.{Distinct, place_le, no_place, get_d_place}
+use Rattle.lists.specs.Evidence.Places.{Distinct, get_or_place}
 
 -- the place in a list with one more at its head
 pub place_head : (x : ℕ) (xs : List ℕ) (v : ℕ) → x ≡ v → place (x ∷ xs) v ≡ 0
@@ -97,4 +97,4 @@ module _ (P : ℕ → Type 0) where
 
   -- what is named in a list stands in it
   pub each_named : (xs : List ℕ) → ((k : ℕ) → k < length xs → P (slice_index xs k)) → (v : ℕ) → place xs v < length xs → P v
-  each_named xs h v l = subst P (get_d_place xs v l) (h (place xs v) l)
+  each_named xs h v l = subst P (get_or_place xs v l) (h (place xs v) l)

@@ -1,4 +1,4 @@
-use Rattle.std.proofs.Common.{◌≡◌, ℕ, sym, ap, ◌∙◌}
+use Rattle.std.proofs.Common.{ℕ, sym, ap, ◌∙◌}
 use Rattle.lists.specs.Order.{earliest, granted}
 use Rattle.matching.specs.Checks.{crew_fault, length_fault}
 use Rattle.lists.proofs.Earliest.{or_first, or_second}

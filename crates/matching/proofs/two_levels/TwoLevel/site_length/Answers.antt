@@ -1,4 +1,4 @@
-use Rattle.std.proofs.Common.{length, ap, ◌∙◌, arith}
+use Rattle.std.proofs.Common.{length, ap, arith}
 use Rattle.lists.specs.Rankings.{ranks}
 use Rattle.lists.specs.declared.parties.Side.TheVariants.{Site}
 use Rattle.lists.proofs.Pigeonhole.{length_few}
