@@ -1,5 +1,5 @@
 #!/usr/bin/env python3
-"""Runs the built planner on rosters, rings and nonsense. Run `rt check planner` first, then: python3 tests/test_planner.py"""
+"""Runs the built planner on rosters, rings and nonsense. Run tools/build_planner first, then: python3 tests/test_planner.py"""
 import os
 import subprocess
 import sys
@@ -7,7 +7,7 @@ import unittest
 
 HERE = os.path.dirname(os.path.abspath(__file__))
 ROOT = os.path.join(HERE, "..")
-PLANNER = os.path.join(ROOT, "target", "bin", "planner")
+PLANNER = os.path.join(ROOT, "crates", "planner", "out", "planner")
 sys.path.insert(0, HERE)
 from chance import ring, some_lists
 from make_roster import Lists, lay_down
