@@ -27,12 +27,12 @@ pub record Apart (L : Rankings) (P : List ℕ) (i j : ℕ) : Type 0 where
 
 -- the level rules of a plan on lists
 pub record LevelRules (L : Rankings) (P K : List ℕ) : Type 0 where
-  -- every crew has a level, 0 or 1
+  -- one level for each crew, at most 1
   pub whole : length K ≡ size L Crew
   pub binary : (i : ℕ) → i < size L Crew → slice_index K i ≤ 1
   -- a crew left out has level 1
   pub is_left_out : (i : ℕ) → i < size L Crew → slice_index P i ≡ 0 → slice_index K i ≡ 1
-  -- where both would rather have each other, the crew has level 0 and the site 1
+  -- where both would rather have each other, the crew's level is 0 and that of the site is 1
   pub both_for : (i j : ℕ) → Apart L P i j → favours L P Crew i j ≡ true → favours L P Site j i ≡ true →
       (level_of P K Crew i ≡ 0) × (level_of P K Site j ≡ 1)
   -- where the crew has level 1 and the site 0, neither would

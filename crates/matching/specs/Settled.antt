@@ -1,4 +1,4 @@
--- The settled plan with its levels, read off the crew-best stable plan of the two-level lists.
+-- The settled plan with its levels, as two-level lists and their crew-best stable plan give it.
 use Rattle.std.specs.Prelude.{◌≡◌, ℕ, zero, suc, true, cond, List, map, Some, None, Option, Result, ◌==◌, nat_le, slice_index}
 use Rattle.std.specs.List.{range_with_len}
 use Rattle.lists.specs.Order.{or_else, unless, granted}
@@ -28,7 +28,7 @@ either_site (suc j) q = suc j
 abbrev pub site_by_copies : Rankings → List ℕ → ℕ → ℕ
 site_by_copies L T i = either_site (real_site_of L (slice_index T (lower i))) (real_site_of L (slice_index T (upper i)))
 
--- its level: 0 if its upper crew has the stand-in, otherwise 1
+-- its level: 0 where the stand-in is with its upper crew, and 1 where it is not
 abbrev pub level_by_copies : Rankings → List ℕ → ℕ → ℕ
 level_by_copies L T i = cond (slice_index T (upper i) == suc (stand_in_of L i)) 0 1
 
@@ -45,7 +45,7 @@ settled_plan_of L = sites_in L (crew_best_of (two_levels_of L))
 abbrev pub settled_levels_of : Rankings → List ℕ
 settled_levels_of L = levels_in L (crew_best_of (two_levels_of L))
 
--- it comes from the one crew-best stable plan of the two-level lists, is a plan on the lists,
+-- its source is the one crew-best plan of the lists with two levels; it is a plan on the lists,
 -- keeps the level rules with its levels, and is dominant
 pub record SettledWell (L : Rankings) : Type 0 where
   pub source : TheCrewBest (two_levels_of L) (crew_best_of (two_levels_of L))

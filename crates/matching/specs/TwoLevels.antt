@@ -26,7 +26,7 @@ upper_list L i = stand_in_of L i ∷ ranks L Crew i
 abbrev pub crew_list : Rankings → ℕ → List ℕ
 crew_list L x = cond (x % 2 == 0) (lower_list L (x / 2)) (upper_list L (x / 2))
 
--- a site names all upper crews of its list in its order, and then all lower ones
+-- a site ranks the upper crews of those that it names, in order, before their lower crews
 abbrev pub split_list : List ℕ → List ℕ
 split_list xs = map upper xs ++ map lower xs
 

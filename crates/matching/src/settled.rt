@@ -1,4 +1,4 @@
-// The settled plan with its levels, read off the crew-best stable plan of the two-level lists.
+// The call that writes the settled plan with its levels.
 ghost use Rattle.std.specs.Prelude.{◌≡◌, ◌*◌, ◌<◌, ◌≤◌, true, length};
 ghost use Rattle.lists.specs.Order.{granted};
 ghost use Rattle.lists.specs.Rankings.{size};
