@@ -3,8 +3,8 @@
 
 usage: tools/spell_names.py       at the top of the repository, once, right after port.py
 
-It turns whole words of specs/, proofs/ and of the clauses in src/, by the table below. Comments, strings, and the
-functions of src/ keep their spelling. Where a name would fall together with another, the table has one of its own.
+It turns whole words of specs/, proofs/ and src/ by the table below, which has no function of src/. Comments and strings
+keep their spelling. Where a name would fall together with another, the table has one of its own.
 """
 
 import os

@@ -10,7 +10,7 @@ use Rattle.matching.specs.Votes.{lead, missed, Dominant}
 abbrev pub LeadIsAntisymmetric : Type 0
 LeadIsAntisymmetric = (L : Rankings) (P Q : List ℕ) → lead L Q P ≡ neg_ℤ (lead L P Q)
 
--- a plan that keeps the rules leads any plan by no less than how many parties only that one places
+-- a plan that keeps the rules leads any other by at least 1 for each party that only the other places
 abbrev pub LevelledPlanLeads : Type 0
 LevelledPlanLeads = (L : Rankings) (P K Q : List ℕ) → PlanOn L P → LevelRules L P K → PlanOn L Q → pos (missed L P Q) ≤ℤ lead L P Q
 
