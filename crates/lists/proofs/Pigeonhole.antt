@@ -1,23 +1,27 @@
--- A list of different numbers below n has at most n of them.
-use Rattle.std.proofs.Common.{◌≡◌, ℕ, zero, suc, ◌<◌, ◌≤◌, cond, eqb, length, get_or, arith}
-use Rattle.std.proofs.lemmas.Bool.Decides.{nat_tests}
+-- A party names at most as many as the other side has.
+use Rattle.std.proofs.Common.{◌≡◌, ℕ, ◌<◌, ◌≤◌, List, true, eqb, length, get_or, sym, ◌∙◌, arith}
+use Rattle.std.specs.List.{Any, IsDistinct}
+use Rattle.std.proofs.lemmas.Bool.{eqb-true, ne_eqb}
+use Rattle.std.proofs.lemmas.Grind.{get_or_default_zero}
+use Rattle.std.proofs.lemmas.List.Folds.{Any-from_list_any}
+use Rattle.std.proofs.lemmas.Map.Keys.{IsDistinct-from_apart}
+use Rattle.std.proofs.lemmas.Map.Steps.{length-le_from_distinct_below}
 use Rattle.lists.specs.Rankings.{Rankings, Lawful, ranks, size}
 use Rattle.lists.specs.Sides.{other}
 use Rattle.lists.specs.declared.parties.Side.{Side}
 
-pub pigeonhole : (n m : ℕ) (f : ℕ → ℕ) → ((k : ℕ) → k < m → f k < n) →
-    ((k l : ℕ) → k < m → l < m → f k ≡ f l → k ≡ l) → m ≤ n
-pigeonhole n zero f below once = omega arith
-pigeonhole zero (suc m) f below once = omega (arith, below 0 (omega arith))
-pigeonhole (suc n) (suc m) f below once =
-    let g : ℕ → ℕ = λ k. cond (eqb (f k) n) (f m) (f k) in
-    let few : m ≤ n = pigeonhole n m g
-    (λ k h. let x = below k (omega arith) in let y = below m (omega arith) in let o = once k m (omega arith) (omega arith) in grind (arith, nat_tests))
-    (λ k l h i e. let o = once k l (omega arith) (omega arith) in let p = once k m (omega arith) (omega arith) in let q = once l m (omega arith) (omega arith) in grind (arith, nat_tests))
-    in omega arith
-
 pub length_few : (L : Rankings) → Lawful L → (s : Side) (i : ℕ) → length (ranks L s i) ≤ 500
 length_few L lawful s i =
-    let h = pigeonhole (size L (other s)) (length (ranks L s i)) (λ k. get_or (ranks L s i) k 0) (lawful.within s i) (lawful.once s i) in
-    let few = lawful.few (other s) in
-    omega arith
+    let few = length-le_from_distinct_below xs (size L (other s)) apart (λ q e. named q (Any-from_list_any (eqb q) xs e)) in
+    omega (arith, few, lawful.few (other s))
+  where
+    xs : List ℕ
+    xs = ranks L s i
+
+    apart : IsDistinct eqb xs
+    apart = IsDistinct-from_apart eqb xs (λ a b d l h. ne_eqb (get_or xs a d) (get_or xs b d) (λ e.
+        let same = lawful.once s i a b (omega arith) h (sym (get_or_default_zero xs a d (omega arith)) ∙ e ∙ get_or_default_zero xs b d h) in
+        omega arith))
+
+    named : (q : ℕ) → Any (λ x. eqb q x ≡ true) xs → q < size L (other s)
+    named q (k, x, h, at, is) = omega (arith, lawful.within s i k h, eqb-true q x is, get_or_default_zero xs k x h)

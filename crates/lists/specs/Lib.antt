@@ -5,3 +5,4 @@ pub mod Order
 pub mod Rankings
 pub mod Rings
 pub mod Sides
+pub mod Words

@@ -6,3 +6,4 @@ pub mod flips;
 pub mod interface;
 pub mod parties;
 pub mod rings;
+mod words;

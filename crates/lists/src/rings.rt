@@ -83,14 +83,17 @@ impl Lists for Ring {
 
     ghost lawful = { λ x. ring_lawful x.size x.crews x.sites x.few };
 
+    #[tactic(auto, using(crate::specs::Evidence::Rings::size_ring))]
     fn count(&self, _side: Side) -> u16 {
         self.parties()
     }
 
+    #[tactic(auto, using(crate::specs::Evidence::Rings::width_ring))]
     fn length(&self, party: Party) -> u16 {
         self.width(party.number)
     }
 
+    #[tactic(auto, using(crate::specs::Evidence::Rings::entry_ring))]
     fn entry(&self, party: Party, place: u16) -> Option<u16> {
         if self.has(party.number) && self.has(place) {
             Some(self.ahead(self.start(party), place))
@@ -99,6 +102,7 @@ impl Lists for Ring {
         }
     }
 
+    #[tactic(auto, using(crate::specs::Evidence::Rings::place_ring))]
     fn place(&self, party: Party, named: u16) -> Option<u16> {
         if self.has(party.number) && self.has(named) {
             Some(self.behind(self.start(party), named))

@@ -1,31 +1,27 @@
 -- What the place of a number in a list tells of the list.
-use Rattle.std.specs.Prelude.{◌≡◌, ℕ, zero, suc, ◌<◌, ◌≤◌, cond, List, [], ◌∷◌, length, Some, None, ◌==◌, ◌≢◌, nat_lt, slice_index}
+use Rattle.std.specs.Prelude.{◌≡◌, ℕ, suc, ◌+◌, ◌<◌, ◌≤◌, cond, not, List, length, Some, None, ◌==◌, ◌≢◌, nat_lt, slice_index, refl}
+use Rattle.std.specs.List.{position_or_len}
 use Rattle.std.proofs.Common.{ap, sym, ◌∙◌, ⊎_elim, arith}
-use Rattle.std.proofs.lemmas.Bool.{cases_lt, cond_both, eqb-true, eqb-false, lt-ltb, le-ltb, cond-true, cond-false}
+use Rattle.std.proofs.lemmas.Bool.{cases_lt, eqb-true, eqb-false, lt-ltb, le-ltb, cond-true, cond-false}
+use Rattle.std.proofs.lemmas.List.Recursion.{is_position_or_len}
+use Rattle.std.proofs.lemmas.List.Sums.{passes_at_first, fails_before_first, prefix_len-le-length}
 use Rattle.lists.specs.Rankings.{place}
 
+-- it is the first that passes the test for that number, as the library has it
+place_is : (xs : List ℕ) (v : ℕ) → place xs v ≡ position_or_len (λ x. x == v) xs
+place_is xs v = is_position_or_len (λ l. place l v) (λ x. x == v) refl (λ x l. ap (λ n. cond (x == v) 0 n) (let e : suc (place l v) ≡ 1 + place l v = omega arith in e)) xs
+
 pub place_le : (xs : List ℕ) (v : ℕ) → place xs v ≤ length xs
-place_le [] v = omega arith
-place_le (x ∷ xs) v =
-    let rest = place_le xs v in
-    cond_both (x == v) zero (suc (place xs v)) (λ p. p ≤ suc (length xs)) (λ _. omega arith) (λ _. omega arith)
+place_le xs v = omega (arith, place_is xs v, prefix_len-le-length (λ x. not (x == v)) xs)
 
 -- what stands at the place
 pub get_or_place : (xs : List ℕ) (v : ℕ) → place xs v < length xs → slice_index xs (place xs v) ≡ v
-get_or_place [] v = λ h. omega arith
-get_or_place (x ∷ xs) v =
-    cond_both (x == v) zero (suc (place xs v)) (λ p. p < suc (length xs) → slice_index (x ∷ xs) p ≡ v)
-    (λ e _. eqb-true x v e)
-    (λ _ h. get_or_place xs v (omega arith))
+get_or_place xs v h = rw (place_is xs v) (eqb-true _ _ (passes_at_first (λ x. x == v) xs 0 (omega (arith, place_is xs v))))
 
 -- it stands nowhere before
 pub place_first : (xs : List ℕ) (v k : ℕ) → k < length xs → slice_index xs k ≡ v → place xs v ≤ k
-place_first [] v k h e = omega arith
-place_first (x ∷ xs) v zero h e =
-    cond_both (x == v) zero (suc (place xs v)) (λ p. p ≤ 0) (λ _. omega arith) (λ n. absurd (eqb-false x v n e))
-place_first (x ∷ xs) v (suc k) h e =
-    let rest = place_first xs v k (omega arith) e in
-    cond_both (x == v) zero (suc (place xs v)) (λ p. p ≤ suc k) (λ _. omega arith) (λ _. omega arith)
+place_first xs v k h e =
+    ⊎_elim (λ l. absurd (eqb-false (slice_index xs k) v (fails_before_first (λ x. x == v) xs k 0 (omega (arith, place_is xs v))) e)) (λ l. l) (cases_lt k (place xs v))
 
 -- a list that names nobody twice
 abbrev pub Distinct : List ℕ → Type 0

@@ -1,5 +1,5 @@
 -- The ring is lawful, and where its parties stand in one another's lists.
-use Rattle.std.specs.Prelude.{◌≡◌, ℕ, ◌+◌, ◌-◌, ◌%◌, ◌<◌, ◌≤◌, cond, ◌⊎◌, List, [], length, get_or, Some, None, nat_lt, slice_index, slice_index_or, refl}
+use Rattle.std.specs.Prelude.{◌≡◌, ℕ, ◌+◌, ◌-◌, ◌%◌, ◌<◌, ◌≤◌, cond, List, [], length, get_or, Some, None, nat_lt, slice_index, slice_index_or, refl}
 use Rattle.std.proofs.Common.{ap, sym, ◌∙◌, subst, ⊎_elim, arith, mod-lt, mod-eq_of_lt}
 use Rattle.std.proofs.Math.Nat.{mod-add-mod, add-mod-mod, add-mod_right}
 use Rattle.std.proofs.lemmas.Bool.{cases_lt, cond_both, ltb-true, ltb-false}
@@ -159,10 +159,16 @@ module _ (n u w : ℕ) (s : Side) (i : ℕ) where
       gives_some k (length (ranks (ring_lists n u w) s i)) (slice_index (ranks (ring_lists n u w) s i) k) ((i + shift_of u w s + k) % n) (omega arith)
       (sym (ap (λ xs. slice_index xs k) (ranks_ring n u w s i hi) ∙ get_or_turn n (i + shift_of u w s) k hk))
 
-  pub entry_ring_none : (k : ℕ) → (n ≤ i) ⊎ (n ≤ k) → None ≡ entry_at (ranks (ring_lists n u w) s i) k
-  entry_ring_none k o =
+  -- past the last party nothing stands at any place, and past the last place nothing stands
+  pub entry_ring_nobody : (k : ℕ) → n ≤ i → None ≡ entry_at (ranks (ring_lists n u w) s i) k
+  entry_ring_nobody k h =
       gives_none k (length (ranks (ring_lists n u w) s i)) (slice_index (ranks (ring_lists n u w) s i) k)
-      (⊎_elim (λ h. omega (arith, length_ring_past n u w s i h)) (λ h. omega (arith, length_ring_most n u w s i)) o)
+      (omega (arith, length_ring_past n u w s i h))
+
+  pub entry_ring_past : (k : ℕ) → n ≤ k → None ≡ entry_at (ranks (ring_lists n u w) s i) k
+  entry_ring_past k h =
+      gives_none k (length (ranks (ring_lists n u w) s i)) (slice_index (ranks (ring_lists n u w) s i) k)
+      (omega (arith, length_ring_most n u w s i))
 
   pub place_ring : (v : ℕ) → i < n → v < n → Some (back n (i + shift_of u w s) v) ≡ place_of (ranks (ring_lists n u w) s i) v
   place_ring v hi hv =
@@ -170,10 +176,13 @@ module _ (n u w : ℕ) (s : Side) (i : ℕ) where
       (back n (i + shift_of u w s) v) (named n u w s i v hi hv)
       (sym (ap (λ xs. place xs v) (ranks_ring n u w s i hi) ∙ place_turn n (i + shift_of u w s) v hv))
 
-  pub place_ring_none : (v : ℕ) → (n ≤ i) ⊎ (n ≤ v) → None ≡ place_of (ranks (ring_lists n u w) s i) v
-  place_ring_none v o =
+  -- past the last party nobody has a place, and whoever is past the last has none
+  pub place_ring_nobody : (v : ℕ) → n ≤ i → None ≡ place_of (ranks (ring_lists n u w) s i) v
+  place_ring_nobody v h =
       gives_none (place (ranks (ring_lists n u w) s i) v) (length (ranks (ring_lists n u w) s i)) (place (ranks (ring_lists n u w) s i) v)
-      (⊎_elim (λ h. omega (arith, length_ring_past n u w s i h)) unnamed o)
-    where
-      unnamed : n ≤ v → length (ranks (ring_lists n u w) s i) ≤ place (ranks (ring_lists n u w) s i) v
-      unnamed h = no_place (ranks (ring_lists n u w) s i) v (λ k l e. omega (arith, entry_low n u w s i k l))
+      (omega (arith, length_ring_past n u w s i h))
+
+  pub place_ring_past : (v : ℕ) → n ≤ v → None ≡ place_of (ranks (ring_lists n u w) s i) v
+  place_ring_past v h =
+      gives_none (place (ranks (ring_lists n u w) s i) v) (length (ranks (ring_lists n u w) s i)) (place (ranks (ring_lists n u w) s i) v)
+      (no_place (ranks (ring_lists n u w) s i) v (λ k l e. omega (arith, entry_low n u w s i k l)))
