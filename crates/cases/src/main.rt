@@ -1,26 +1,19 @@
 // Many rosters, each with a line that says what came of it: its first fault, or its two stable plans.
 #![tactic(auto)]
 
-use lists::faults::{Fault, Layer, Place};
+use lists::faults::{Fault, Place};
 use lists::flips::Flip;
 use lists::interface::Lists;
 use lists::parties::Side;
 use matching::stable::stable_plan;
 use roster::reader::read;
 use std::alloc::{AllocError, Global};
+use std::fmt::Write;
 use std::{env, fs};
-
-fn layer_word(layer: Layer) -> &'static str {
-    match layer {
-        Layer::File => "file",
-        Layer::Lists => "lists",
-        Layer::Round => "round",
-    }
-}
 
 fn fault_line(heap: Global, fault: Fault) -> Result<String, AllocError> {
     let number = fault.number();
-    let layer = layer_word(fault.layer());
+    let layer = fault.layer();
     match fault.place() {
         Place::Whole | Place::Handed { .. } => format!(in heap; "fault {number}, {layer}, 0"),
         Place::Crew { crew, .. } => format!(in heap; "fault {number}, {layer}, crew {crew}"),
@@ -35,14 +28,12 @@ fn fault_line(heap: Global, fault: Fault) -> Result<String, AllocError> {
 
 // The crew-best stable plan of some lists, one number for each crew.
 fn plan_line<L: Lists>(heap: Global, lists: &L) -> Result<String, AllocError> {
-    let count = lists.count(Side::Crew) as usize;
-    let mut plan = vec![in heap; 0u16; count]?;
+    let mut plan = vec![in heap; 0u16; usize::from(lists.count(Side::Crew))]?;
     match stable_plan(lists, plan.as_mut_slice()) {
         Ok(()) => {
             let mut line = String::new(heap);
-            for site in plan.iter() {
-                let word = format!(in heap; " {site}")?;
-                line.push_str(word.as_str())?;
+            for site in &plan {
+                write!(line, " {site}")?;
             }
             Ok(line)
         }
@@ -73,6 +64,7 @@ fn main(rt: HostRuntime) -> anyhow::Result<()> {
 #[cfg(test)]
 mod tests {
     use super::*;
+    use lists::faults::Layer;
     use lists::rings::Ring;
     use std::test::Fail;
 
@@ -94,7 +86,7 @@ mod tests {
         let mut plan = vec![in rt.alloc(); 0u16; 500]?;
         stable_plan(&ring, plan.as_mut_slice())?;
         for (crew, site) in plan.iter().enumerate() {
-            assert_eq!(rt; *site as usize, (crew + 65535) % 500 + 1);
+            assert_eq!(rt; usize::from(*site), (crew + 65535) % 500 + 1);
         }
         Ok(())
     }

@@ -33,11 +33,7 @@ fn pair_roster(rt: &HostRuntime, source: impl Read + Drop) -> Result<(), Trouble
 
 // The words after the program's name.
 fn words(rt: &HostRuntime) -> Result<Vec<String>, Trouble> {
-    let mut words = Vec::new(rt.alloc());
-    for word in env::args(rt)?.skip(1) {
-        words.push(word)?;
-    }
-    Ok(words)
+    Ok(env::args(rt)?.skip(1).collect(rt.alloc())?)
 }
 
 fn run(rt: &HostRuntime) -> Result<(), Trouble> {

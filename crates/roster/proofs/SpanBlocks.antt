@@ -13,7 +13,7 @@ use Rattle.roster.specs.LaidDown.{party_text}
 use Rattle.lists.proofs.Earliest.{none_first, or_none, earliest_each, each_earliest}
 use Rattle.roster.proofs.Laying.{Short, party_short}
 use Rattle.roster.proofs.PartyBlocks.{Party, unless_true, party_reads, reads_party, fields_party, list_bound, party_list, party_fields}
-use Rattle.lists.proofs.Pigeonhole.{pigeonhole}
+use Rattle.lists.proofs.Pigeonhole.{distinct_few}
 use Rattle.roster.proofs.Sealed.{Laid, reads_laid, laid_reads}
 use Rattle.roster.proofs.Shown.{Within, Once, Returned, span_list, entries_at, entries_length}
 use Rattle.roster.proofs.Texts.{party_length}
@@ -39,7 +39,7 @@ module _ (bs : List ℕ) (s : Span) (few : s.others ≤ 250) (low : (j : ℕ) �
 
 -- different numbers below n are at most n
 pub list_few : (ls : List (List ℕ)) (n i : ℕ) → Within ls n → Once ls → length (get_or ls i []) ≤ n
-list_few ls n i within once = pigeonhole n (length (get_or ls i [])) (λ k. get_or (get_or ls i []) k 0) (within i) (once i)
+list_few ls n i within once = distinct_few (get_or ls i []) n (within i) (once i)
 
 -- from the lists laid down to no fault
 module _ (bs : List ℕ) (s : Span) (ls : List (List ℕ)) (few : s.others ≤ 250) (same : s.count ≡ length ls)
