@@ -1,5 +1,5 @@
 // The ring: every party names the whole other side, going round from a start of its own.
-ghost use Rattle.std.specs.Prelude.{◌≡◌, ◌+◌, ◌-◌, ◌%◌, ◌^◌, ◌<◌, ◌≤◌, if◌then◌else◌, MatchResult, nat_lt};
+ghost use Rattle.std.specs.Prelude.{◌≡◌, ◌+◌, ◌-◌, ◌%◌, ◌^◌, ◌<◌, ◌≤◌, if◌then◌else◌, Some, None, IfSome, MatchResult, nat_lt};
 ghost use Rattle.lists.specs.Rings.{ring_lists, shift_of};
 ghost use Rattle.lists.specs.Evidence.Rings.{ring_lawful};
 
@@ -49,15 +49,18 @@ impl Ring {
     }
 
     // Where a party begins, counted on from number 0.
-    fn start(&self, party: Party) -> u32
-        ensures value { result ≡ party.number + shift_of self.now.crews self.now.sites party.side }
-        ensures small { result < 2 ^ 17 }
+    fn start(&self, party: Party) -> Option<u32>
+        ensures value { result ≡ (if nat_lt party.number self.now.size then Some (party.number + shift_of self.now.crews self.now.sites party.side) else None) }
+        ensures small { IfSome result (λ start. start < 2 ^ 17) }
     {
+        if !self.has(party.number) {
+            return None;
+        }
         let shift = match party.side {
             Side::Crew => self.crews,
             Side::Site => self.sites,
         };
-        u32::from(party.number) + u32::from(shift)
+        Some(u32::from(party.number) + u32::from(shift))
     }
 
     // Whom a list that begins at a start names at a place.
@@ -93,19 +96,21 @@ impl Lists for Ring {
         self.width(party.number)
     }
 
-    #[tactic(auto, using(crate::specs::Evidence::Rings::entry_ring))]
+    #[tactic(auto, using(crate::specs::Evidence::Rings::entry_ring, crate::specs::Evidence::Rings::entry_ring_nobody, crate::specs::Evidence::Rings::entry_ring_past))]
     fn entry(&self, party: Party, place: u16) -> Option<u16> {
-        if self.has(party.number) && self.has(place) {
-            Some(self.ahead(self.start(party), place))
+        let start = self.start(party)?;
+        if self.has(place) {
+            Some(self.ahead(start, place))
         } else {
             None
         }
     }
 
-    #[tactic(auto, using(crate::specs::Evidence::Rings::place_ring))]
+    #[tactic(auto, using(crate::specs::Evidence::Rings::place_ring, crate::specs::Evidence::Rings::place_ring_nobody, crate::specs::Evidence::Rings::place_ring_past))]
     fn place(&self, party: Party, named: u16) -> Option<u16> {
-        if self.has(party.number) && self.has(named) {
-            Some(self.behind(self.start(party), named))
+        let start = self.start(party)?;
+        if self.has(named) {
+            Some(self.behind(start, named))
         } else {
             None
         }
