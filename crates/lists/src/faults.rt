@@ -70,7 +70,7 @@ pub enum Place {
 }
 
 impl Fault {
-    // The number by which the fault is known.
+    // The number by which the fault is known: a number and no enum, since a caller in C is handed it as it is.
     pub fn number(self) -> u8
         ensures { result ≡ number_of self }
     {

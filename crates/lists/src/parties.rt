@@ -27,6 +27,7 @@ impl Side {
 }
 
 impl Party {
+    // Two names for one constructor, since `Party::crew(0)` reads better at a call than a side and a number.
     pub fn crew(number: u16) -> Party
         ensures { result ≡ record { side = Side.Crew; number = number } }
     {

@@ -63,7 +63,7 @@ impl Ring {
         Some(u32::from(party.number) + u32::from(shift))
     }
 
-    // Whom a list that begins at a start names at a place.
+    // Whom a list that begins at a start names at a place; a remainder by the size has 16 bits, which no `From` can know.
     fn ahead(&self, start: u32, place: u16) -> u16
         requires { (0 < self.now.size) × (start < 2 ^ 17) }
         ensures { result ≡ (start + place) % self.now.size }
@@ -71,7 +71,7 @@ impl Ring {
         ((start + u32::from(place)) % u32::from(self.size)) as u16
     }
 
-    // At which place a list that begins at a start names a party.
+    // At which place a list that begins at a start names a party; 16 bits hold it likewise.
     fn behind(&self, start: u32, named: u16) -> u16
         requires { 0 < self.now.size }
         ensures { result ≡ (named + (self.now.size - start % self.now.size)) % self.now.size }

@@ -9,7 +9,7 @@ use lists::parties::{Party, Side};
 use matching::stable::stable_plan;
 use std::alloc::{AllocError, Global};
 
-// A plan, written as one number for each party of one side: 0 for none, else the partner's number plus 1.
+// A plan as the stable call writes it, one number for each party of one side: 0 for none, else the partner's number plus 1.
 #[derive(Drop)]
 pub struct Pairing {
     side: Side,
@@ -63,7 +63,7 @@ impl Pairing {
         self.plan.get(usize::from(number))?.checked_sub(1)
     }
 
-    // Who has the party of a number on the other side.
+    // Who has the party of a number on the other side; a plan is short, so that 16 bits hold the place.
     fn holder_of(&self, number: u16) -> Option<u16>
         ensures { result ≡ held self.now.plan.items number }
     {

@@ -34,7 +34,7 @@ pub fn of_roster(heap: Global, bytes: &[u8]) -> Result<String, Trouble>
     Ok(both_plans(heap, &roster)?)
 }
 
-// The trial of a ring.
+// The trial of a ring; its three numbers stand apart, since `Ring` is what they become once they are known to fit.
 pub fn of_ring(heap: Global, size: u16, crews: u16, sites: u16) -> Result<String, Trouble>
     ensures text { IfOk result (λ s. (size ≤ 500) × TrialText (ring_lists size crews sites) (string_bytes s)) }
     ensures refusal { 500 < size → result ≡ Err (Trouble.Unfit Fault.RingTooLarge) }

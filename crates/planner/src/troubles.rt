@@ -20,6 +20,7 @@ pub enum Trouble {
     Memory,
 }
 
+// The four `From` are by hand, since what a derive writes does not tell a contract which case comes of a `?`.
 impl From<Fault> for Trouble {
     ghost from_gives = { λ fault trouble. trouble ≡ Unfit fault };
 
