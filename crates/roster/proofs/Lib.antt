@@ -2,12 +2,10 @@ pub mod HeadBlocks
 pub mod Law
 pub mod Laying
 pub mod PartyBlocks
-pub mod Pushing
-pub mod Readings
+pub mod Placing
 pub mod Sealed
 pub mod Shown
-pub mod Sides
 pub mod SpanBlocks
 pub mod Texts
 pub mod Weights
-pub mod Writes
+pub mod Zeros

@@ -4,9 +4,8 @@ use Rattle.std.proofs.lemmas.List.FromFn.{fill_by_all}
 use Rattle.std.proofs.lemmas.List.{get_or_past}
 use Rattle.std.proofs.lemmas.Bool.{cases_lt, cases_eq, eqb-true, eq-eqb, leb-true, le-leb, cond-true}
 use Rattle.lists.specs.declared.faults.Fault.TheVariants.{BlockCheck, BlockField}
-use Rattle.roster.specs.declared.spans.Span.{Span}
 use Rattle.lists.specs.Order.{unless}
-use Rattle.roster.specs.Layout.{byte_at, two_at, four_at, seal, list_in}
+use Rattle.roster.specs.Layout.{Span, byte_at, two_at, four_at, seal, list_in}
 use Rattle.roster.specs.FirstFault.{check_fault, byte_fault, number_fault, bound_fault, zero_fault, fields_fault}
 use Rattle.roster.specs.LaidDown.{party_text}
 use Rattle.lists.proofs.Earliest.{none_first, none_second, or_none, earliest_each, each_earliest}
@@ -42,14 +41,14 @@ bound_fits bs b i n e = leb-true _ _ (unless_none _ (BlockField b i) e)
 pub fits_bound : (bs : List ℕ) (b i n : ℕ) → two_at bs b i ≤ n → bound_fault bs b i n ≡ None
 fits_bound bs b i n e = unless_true _ (BlockField b i) (le-leb _ _ e)
 
-pub zeros_fit : (bs : List ℕ) (b from : ℕ) → zero_fault bs b from ≡ None → (i : ℕ) → from ≤ i → i < 508 → byte_at bs b i ≡ 0
-zeros_fit bs b from e i l h =
+pub zeros_fit : (bs : List ℕ) (b from to : ℕ) → zero_fault bs b from to ≡ None → (i : ℕ) → from ≤ i → i < to → byte_at bs b i ≡ 0
+zeros_fit bs b from to e i l h =
     let z : from + (i - from) ≡ i = omega arith in
     subst (λ (j : ℕ). byte_at bs b j ≡ 0) z
-    (byte_fits bs b (from + (i - from)) 0 (earliest_each (508 - from) (λ (k : ℕ). byte_fault bs b (from + k) 0) e (i - from) (omega arith)))
+    (byte_fits bs b (from + (i - from)) 0 (earliest_each (to - from) (λ (k : ℕ). byte_fault bs b (from + k) 0) e (i - from) (omega arith)))
 
-pub fit_zeros : (bs : List ℕ) (b from : ℕ) → ((i : ℕ) → from ≤ i → i < 508 → byte_at bs b i ≡ 0) → zero_fault bs b from ≡ None
-fit_zeros bs b from h = each_earliest (508 - from) (λ (k : ℕ). byte_fault bs b (from + k) 0)
+pub fit_zeros : (bs : List ℕ) (b from to : ℕ) → ((i : ℕ) → from ≤ i → i < to → byte_at bs b i ≡ 0) → zero_fault bs b from to ≡ None
+fit_zeros bs b from to h = each_earliest (to - from) (λ (k : ℕ). byte_fault bs b (from + k) 0)
     (λ k l. fits_byte bs b (from + k) 0 (h (from + k) (omega arith) (omega arith)))
 
 -- the two bytes of a number
@@ -117,7 +116,7 @@ fields_fit bs s i e =
       plain = byte_fits bs b 1 0 (none_first _ _ e2);
       number = number_fits bs b 2 i (none_first _ _ e3);
       bound = bound_fits bs b 4 s.others (none_first _ _ e4);
-      behind = zeros_fit bs b (6 + 2 * two_at bs b 4) (none_second (bound_fault bs b 4 s.others) _ e4);
+      behind = zeros_fit bs b (6 + 2 * two_at bs b 4) 508 (none_second (bound_fault bs b 4 s.others) _ e4);
     }
 
 -- a block whose fields have no fault holds its own list
@@ -175,4 +174,4 @@ party_fields bs s i xs short bound h =
     (or_none _ _ (fits_byte bs (s.first + i) 1 0 h.plain)
     (or_none _ _ (fits_number bs (s.first + i) 2 i h.number)
     (or_none _ _ (fits_bound bs (s.first + i) 4 s.others (omega arith))
-    (fit_zeros bs (s.first + i) (6 + 2 * two_at bs (s.first + i) 4) (party_behind bs (s.first + i) s.kind i xs short h))))))
+    (fit_zeros bs (s.first + i) (6 + 2 * two_at bs (s.first + i) 4) 508 (party_behind bs (s.first + i) s.kind i xs short h))))))

@@ -1,5 +1,5 @@
 -- The lists that a roster without faults shows are lawful.
-use Rattle.std.proofs.Common.{◌≡◌, ℕ, ◌+◌, ◌*◌, ◌<◌, ◌≤◌, Bool, true, false, ltb, List, [], length, get_or, None, sym, refl, ap, ◌∙◌, subst, ⊎_elim, arith}
+use Rattle.std.proofs.Common.{◌≡◌, ℕ, ◌+◌, ◌*◌, ◌<◌, ◌≤◌, Bool, true, false, ltb, List, [], length, get_or, None, sym, refl, ap, ap₂, ◌∙◌, subst, ⊎_elim, arith}
 use Rattle.std.proofs.lemmas.List.FromFn.{get_or-map-range_with_len, length-map-range_with_len}
 use Rattle.std.proofs.lemmas.List.{get_or_past}
 use Rattle.std.proofs.lemmas.Bool.{cases_lt, cases_order, ltb-true, leb-true}
@@ -7,10 +7,10 @@ use Rattle.lists.specs.Rankings.{Rankings, Lawful, place}
 use Rattle.lists.specs.Evidence.Places.{get_or_place, place_first}
 use Rattle.lists.specs.declared.faults.Fault.TheVariants.{EntryTooHigh, EntryRepeated, EntryUnreturned}
 use Rattle.lists.specs.declared.parties.Side.TheVariants.{Crew, Site}
-use Rattle.roster.specs.declared.spans.Span.{Span}
 use Rattle.lists.specs.Order.{unless, earliest}
-use Rattle.roster.specs.Layout.{two_at, entries, list_in, lists_in, span_of_crews, span_of_sites, shown}
+use Rattle.roster.specs.Layout.{Span, two_at, entries, list_in, lists_in, span_of_crews, span_of_sites, shown}
 use Rattle.roster.specs.FirstFault.{entry_fault, fields_fault, party_fault, span_fault, return_fault, returns_fault}
+use Rattle.roster.specs.Held.{both_of}
 use Rattle.lists.proofs.Earliest.{earliest_each, none_first, none_second}
 
 pub unless_none : {X : Type 0} (t : Bool) (x : X) → unless t x ≡ None → t ≡ true
@@ -129,3 +129,13 @@ lawful_shown bs nc ns fc fs rc rs =
     (rw ls (span_within bs (span_of_crews bs) fc)) (rw lc (span_within bs (span_of_sites bs) fs))
     (span_once bs (span_of_crews bs) fc) (span_once bs (span_of_sites bs) fs)
     (returned_none _ _ _ rc) (returned_none _ _ _ rs)
+
+-- the lists that were read, where nothing was found on the way
+pub lawful_read : (bs : List ℕ) (c s : List (List ℕ)) → c ≡ (shown bs).crews → s ≡ (shown bs).sites → two_at bs 0 4 ≤ 250 → two_at bs 0 6 ≤ 250
+    → None ≡ span_fault bs (span_of_crews bs) → None ≡ span_fault bs (span_of_sites bs)
+    → None ≡ returns_fault c s (span_of_crews bs).first → None ≡ returns_fault s c (span_of_sites bs).first → Lawful (both_of c s)
+lawful_read bs c s ec es nc ns fc fs rc rs =
+    rw (ec, es)
+    (lawful_shown bs nc ns (sym fc) (sym fs)
+    (sym (rc ∙ ap₂ (λ (x y : List (List ℕ)). returns_fault x y (span_of_crews bs).first) ec es))
+    (sym (rs ∙ ap₂ (λ (x y : List (List ℕ)). returns_fault x y (span_of_sites bs).first) es ec)))

@@ -5,9 +5,8 @@ use Rattle.std.proofs.lemmas.Bool.{lt-ltb, le-leb}
 use Rattle.lists.specs.Rankings.{place}
 use Rattle.lists.specs.Evidence.Places.{no_place, place_first}
 use Rattle.lists.specs.declared.faults.Fault.TheVariants.{EntryTooHigh, EntryRepeated, EntryUnreturned}
-use Rattle.roster.specs.declared.spans.Span.{Span}
 use Rattle.lists.specs.Order.{earliest}
-use Rattle.roster.specs.Layout.{two_at, entries, list_in, lists_in}
+use Rattle.roster.specs.Layout.{Span, two_at, entries, list_in, lists_in}
 use Rattle.roster.specs.FirstFault.{fields_fault, entry_fault, party_fault, span_fault, return_fault, returns_fault}
 use Rattle.roster.specs.LaidDown.{party_text}
 use Rattle.lists.proofs.Earliest.{none_first, or_none, earliest_each, each_earliest}

@@ -3,8 +3,7 @@ use Rattle.std.specs.Prelude.{ℕ, ◌+◌, ◌-◌, ◌*◌, ◌%◌, ◌&&◌,
 use Rattle.lists.specs.Rankings.{place}
 use Rattle.lists.specs.declared.faults.Fault.{Fault}
 use Rattle.lists.specs.declared.faults.Fault.TheVariants.{RosterLength, BlockCheck, BlockField, EntryTooHigh, EntryRepeated, EntryUnreturned}
-use Rattle.roster.specs.declared.spans.Span.{Span}
-use Rattle.roster.specs.Layout.{byte_at, two_at, four_at, seal, entries, span_of_crews, span_of_sites, shown}
+use Rattle.roster.specs.Layout.{Span, byte_at, two_at, four_at, seal, entries, span_of_crews, span_of_sites, shown}
 use Rattle.lists.specs.Order.{or_else, unless, earliest}
 
 -- a length of 0, one that is no whole number of blocks, and one above 501 blocks
@@ -27,21 +26,19 @@ number_fault bs b i v = unless (two_at bs b i == v) (BlockField b i)
 abbrev pub bound_fault : List ℕ → ℕ → ℕ → ℕ → Option Fault
 bound_fault bs b i n = unless (nat_le (two_at bs b i) n) (BlockField b i)
 
--- a byte that is not zero, from one byte on up to the check
-abbrev pub zero_fault : List ℕ → ℕ → ℕ → Option Fault
-zero_fault bs b from = earliest (508 - from) (λ k. byte_fault bs b (from + k) 0)
+-- a byte that is not zero, from one byte on up to another
+abbrev pub zero_fault : List ℕ → ℕ → ℕ → ℕ → Option Fault
+zero_fault bs b from to = earliest (to - from) (λ k. byte_fault bs b (from + k) 0)
 
 -- the fields of block 0, byte by byte
 abbrev pub head_fault : List ℕ → Option Fault
 head_fault bs =
     or_else (check_fault bs 0)
     (or_else (byte_fault bs 0 0 1)
-    (or_else (byte_fault bs 0 1 0)
-    (or_else (byte_fault bs 0 2 0)
-    (or_else (byte_fault bs 0 3 0)
+    (or_else (zero_fault bs 0 1 4)
     (or_else (bound_fault bs 0 4 250)
     (or_else (bound_fault bs 0 6 250)
-    (zero_fault bs 0 8)))))))
+    (zero_fault bs 0 8 508)))))
 
 -- a number of blocks that does not fit the counts
 abbrev pub blocks_fault : List ℕ → Option Fault
@@ -55,7 +52,7 @@ fields_fault bs s i =
     (or_else (byte_fault bs (s.first + i) 1 0)
     (or_else (number_fault bs (s.first + i) 2 i)
     (or_else (bound_fault bs (s.first + i) 4 s.others)
-    (zero_fault bs (s.first + i) (6 + 2 * two_at bs (s.first + i) 4))))))
+    (zero_fault bs (s.first + i) (6 + 2 * two_at bs (s.first + i) 4) 508)))))
 
 -- an entry that names nobody, or somebody whom an earlier entry of its list names
 abbrev pub entry_fault : List ℕ → ℕ → ℕ → ℕ → Option Fault

@@ -2,7 +2,8 @@
 use Rattle.std.specs.Prelude.{ℕ, zero, suc, ◌+◌, ◌*◌, ◌%◌, List, map, slice_index}
 use Rattle.std.specs.List.{range_with_len}
 use Rattle.lists.specs.Rankings.{Rankings}
-use Rattle.roster.specs.declared.spans.Span.{Span}
+use Rattle.lists.specs.declared.parties.Side.{Side}
+use Rattle.lists.specs.declared.parties.Side.TheVariants.{Crew, Site}
 
 -- a byte of a block of 512
 abbrev pub byte_at : List ℕ → ℕ → ℕ → ℕ
@@ -33,12 +34,28 @@ entries bs b n = map (λ k. two_at bs b (6 + 2 * k)) (range_with_len 0 n)
 abbrev pub list_in : List ℕ → ℕ → List ℕ
 list_in bs b = entries bs b (two_at bs b 4)
 
+-- byte 0 of each block of a side
+abbrev pub kind_of : Side → ℕ
+kind_of Crew = 2
+kind_of Site = 3
+
+-- the blocks of one side: byte 0 of each, the block of party 0, and how many parties this side and the other have
+pub record Span : Type 0 where
+  pub kind : ℕ
+  pub first : ℕ
+  pub count : ℕ
+  pub others : ℕ
+
 -- the blocks of the crews, and after them those of the sites
 abbrev pub span_of_crews : List ℕ → Span
 span_of_crews bs = record { kind = 2; first = 1; count = two_at bs 0 4; others = two_at bs 0 6 }
 
 abbrev pub span_of_sites : List ℕ → Span
 span_of_sites bs = record { kind = 3; first = 1 + two_at bs 0 4; count = two_at bs 0 6; others = two_at bs 0 4 }
+
+abbrev pub span_on : List ℕ → Side → Span
+span_on bs Crew = span_of_crews bs
+span_on bs Site = span_of_sites bs
 
 -- the lists in a span of blocks
 abbrev pub lists_in : List ℕ → Span → List (List ℕ)

@@ -1,7 +1,7 @@
 // A roster that was read, and its answers as lists.
 ghost use Rattle.std.specs.Prelude.{◌≡◌};
-ghost use Rattle.lists.specs.Rankings.{half as lists_on};
-ghost use Rattle.roster.specs.Held.{lists_of, both_of, Filled, Kept};
+ghost use Rattle.lists.specs.Rankings.{half as lists_on, Lawful};
+ghost use Rattle.roster.specs.Held.{both_of};
 ghost use Rattle.roster.specs.Evidence.{both_lawful};
 
 use crate::halves::Half;
@@ -13,13 +13,13 @@ use lists::parties::{Party, Side};
 pub struct Roster {
     pub(crate) crews: Half,
     pub(crate) sites: Half,
-    ghost kept: { ∥ Kept crews sites ∥₁ },
+    ghost kept: { ∥ Lawful (both_of crews sites) ∥₁ },
 }
 
 impl Roster {
     // One of the two sides.
     fn half(&self, side: Side) -> &Half
-        ensures { (Filled result.now) × (lists_of result.now ≡ lists_on (both_of self.now.crews self.now.sites) side) }
+        ensures { result.now ≡ lists_on (both_of self.now.crews self.now.sites) side }
     {
         match side {
             Side::Crew => &self.crews,
