@@ -7,12 +7,13 @@ ghost use Rattle.roster.specs.FirstFault.{check_fault, bound_fault, zero_fault};
 
 use crate::fields::Field;
 use lists::faults::Fault;
+use std::ops::Range;
 
 // How many bytes a block has.
 pub(crate) const BLOCK: usize = 512;
 
-// How many of them its check covers.
-const CHECKED: u16 = 508;
+// How many of them its check covers, and so where it begins.
+pub(crate) const CHECKED: u16 = 508;
 
 // A block of a roster.
 #[derive(Clone, Copy)]
@@ -30,14 +31,21 @@ fn first_nonzero(bytes: &[u8]) -> Option<usize>
 }
 
 impl Block<'_> {
-    // The bytes from one on up to another.
-    fn bytes(&self, from: u16, to: u16) -> &[u8]
-        requires { (from ≤ to) × (to ≤ 512) }
-        ensures len { from + length result.now ≡ to }
-        ensures same { (k : ℕ) → k < length result.now → slice_index result.now k ≡ byte_at self.now.roster.now self.now.number (from + k) }
+    // Where the block begins in the roster.
+    fn start(&self) -> usize
+        ensures { result ≡ 512 * self.now.number }
     {
-        let start = BLOCK * usize::from(self.number);
-        &self.roster[start + usize::from(from)..start + usize::from(to)]
+        BLOCK * usize::from(self.number)
+    }
+
+    // Some of its bytes.
+    fn bytes(&self, part: Range<u16>) -> &[u8]
+        requires { (part.start ≤ part.end) × (part.end ≤ 512) }
+        ensures len { part.start + length result.now ≡ part.end }
+        ensures same { (k : ℕ) → k < length result.now → slice_index result.now k ≡ byte_at self.now.roster.now self.now.number (part.start + k) }
+    {
+        let start = self.start();
+        &self.roster[start + usize::from(part.start)..start + usize::from(part.end)]
     }
 
     // One byte.
@@ -45,7 +53,7 @@ impl Block<'_> {
         requires { at < 512 }
         ensures { result ≡ byte_at self.now.roster.now self.now.number at }
     {
-        self.roster[BLOCK * usize::from(self.number) + usize::from(at)]
+        self.roster[self.start() + usize::from(at)]
     }
 
     // What is wrong at a byte that begins a field.
@@ -63,17 +71,17 @@ impl Block<'_> {
         ensures { result ≡ weighted (byte_at self.now.roster.now self.now.number) 508 }
     {
         let mut sum = 0;
-        for (at, byte) in self.bytes(0, CHECKED).iter().enumerate() {
+        for (at, byte) in self.bytes(0..CHECKED).iter().enumerate() {
             sum += (at as u32 + 1) * u32::from(*byte);
         }
         sum
     }
 
-    // The check fits the bytes.
-    pub(crate) fn check_sum(&self) -> Result<(), Fault>
+    // The check that the block carries fits its bytes.
+    pub(crate) fn check_seal(&self) -> Result<(), Fault>
         ensures { result_err result ≡ check_fault self.now.roster.now self.now.number }
     {
-        if self.weight() % 131071 == u32::read(self, CHECKED) {
+        if self.weight() % 131071 == u32::from_block(self, CHECKED) {
             Ok(())
         } else {
             Err(Fault::BlockCheck { block: self.number })
@@ -85,7 +93,7 @@ impl Block<'_> {
         requires { at + T.width ≤ 512 }
         ensures { result_err result ≡ unless (T.eq (T.value_at self.now.roster.now self.now.number at) value) (Fault.BlockField self.now.number at) }
     {
-        if T::read(self, at) == value {
+        if T::from_block(self, at) == value {
             Ok(())
         } else {
             Err(self.wrong_field(at))
@@ -98,7 +106,7 @@ impl Block<'_> {
         ensures fault { result_err result ≡ bound_fault self.now.roster.now self.now.number at most }
         ensures value { IfOk result (λ n. (n ≡ two_at self.now.roster.now self.now.number at) × (n ≤ most)) }
     {
-        let value = u16::read(self, at);
+        let value = u16::from_block(self, at);
         if value <= most {
             Ok(value)
         } else {
@@ -106,12 +114,13 @@ impl Block<'_> {
         }
     }
 
-    // Every byte from one on up to another is zero.
-    pub(crate) fn check_zeros(&self, from: u16, to: u16) -> Result<(), Fault>
-        requires { (from ≤ to) × (to ≤ 512) }
-        ensures { result_err result ≡ zero_fault self.now.roster.now self.now.number from to }
+    // A part of the block is zero throughout.
+    pub(crate) fn check_zeros(&self, part: Range<u16>) -> Result<(), Fault>
+        requires { (part.start ≤ part.end) × (part.end ≤ 512) }
+        ensures { result_err result ≡ zero_fault self.now.roster.now self.now.number part.start part.end }
     {
-        match first_nonzero(self.bytes(from, to)) {
+        let from = part.start;
+        match first_nonzero(self.bytes(part)) {
             None => Ok(()),
             Some(k) => Err(self.wrong_field(from + k as u16)),
         }

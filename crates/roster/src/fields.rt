@@ -1,18 +1,19 @@
-// The numbers that stand in a block, in one, two or four bytes with the high byte first.
+// Numbers as they stand in a block: in one, two or four bytes, the high byte first.
 ghost use Rattle.std.specs.Prelude.{◌≡◌, ℕ, ◌+◌, ◌≤◌, List};
 ghost use Rattle.roster.specs.Layout.{byte_at, two_at, four_at};
 
 use crate::blocks::Block;
 
+// A number that a block can hold.
 pub(crate) trait Field: Copy + PartialEq {
     // How many bytes it takes.
     ghost width: { ℕ };
 
-    // The number that begins at a byte of a block, by the roster's bytes.
+    // The number that begins at a byte of a block, by the bytes of the roster.
     ghost value_at: { List ℕ → ℕ → ℕ → Self };
 
     // The number that begins at a byte of a block.
-    fn read(block: &Block<'_>, at: u16) -> Self
+    fn from_block(block: &Block<'_>, at: u16) -> Self
         requires { at + width ≤ 512 }
         ensures { result ≡ value_at block.now.roster.now block.now.number at };
 }
@@ -22,7 +23,7 @@ impl Field for u8 {
 
     ghost value_at = { byte_at };
 
-    fn read(block: &Block<'_>, at: u16) -> u8 {
+    fn from_block(block: &Block<'_>, at: u16) -> u8 {
         block.byte(at)
     }
 }
@@ -32,7 +33,7 @@ impl Field for u16 {
 
     ghost value_at = { two_at };
 
-    fn read(block: &Block<'_>, at: u16) -> u16 {
+    fn from_block(block: &Block<'_>, at: u16) -> u16 {
         u16::from_be_bytes([block.byte(at), block.byte(at + 1)])
     }
 }
@@ -42,7 +43,7 @@ impl Field for u32 {
 
     ghost value_at = { four_at };
 
-    fn read(block: &Block<'_>, at: u16) -> u32 {
+    fn from_block(block: &Block<'_>, at: u16) -> u32 {
         u32::from_be_bytes([
             block.byte(at),
             block.byte(at + 1),

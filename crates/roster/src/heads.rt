@@ -1,11 +1,10 @@
 // A roster's length and its block 0.
 ghost use Rattle.std.specs.Prelude.{◌≡◌, ◌+◌, ◌*◌, ◌≤◌, length, IfOk};
 ghost use Rattle.std.specs.Result.{result_err};
-ghost use Rattle.lists.specs.Order.{or_else};
 ghost use Rattle.roster.specs.Layout.{two_at};
 ghost use Rattle.roster.specs.FirstFault.{length_fault, head_fault, blocks_fault};
 
-use crate::blocks::{BLOCK, Block};
+use crate::blocks::{BLOCK, Block, CHECKED};
 use crate::rows::LIMIT;
 use crate::spans::Span;
 use lists::faults::Fault;
@@ -14,7 +13,7 @@ use lists::parties::Side;
 // How many blocks a roster may have.
 const MOST_BLOCKS: usize = 501;
 
-// How many parties each side of a roster has.
+// What block 0 of a roster tells: how many parties each side has.
 #[derive(Clone, Copy)]
 pub(crate) struct Head<'a> {
     roster: &'a [u8],
@@ -27,19 +26,19 @@ pub(crate) struct Head<'a> {
 }
 
 impl<'a> Head<'a> {
-    // Block 0 of a roster.
+    // Block 0, field by field.
     pub(crate) fn read(roster: &'a [u8]) -> Result<Head<'a>, Fault>
         requires { 512 ≤ length roster.now }
         ensures fault { result_err result ≡ head_fault roster.now }
         ensures same { IfOk result (λ h. h.roster.now ≡ roster.now) }
     {
         let block = Block { roster, number: 0 };
-        block.check_sum()?;
+        block.check_seal()?;
         block.check(0, 1u8)?;
-        block.check_zeros(1, 4)?;
+        block.check_zeros(1..4)?;
         let crews = block.bounded(4, LIMIT as u16)?;
         let sites = block.bounded(6, LIMIT as u16)?;
-        block.check_zeros(8, 508)?;
+        block.check_zeros(8..CHECKED)?;
         Ok(Head {
             roster,
             crews,

@@ -12,7 +12,7 @@ use lists::faults::Fault;
 
 // The byte at which an entry begins.
 pub(crate) fn entry_byte(k: u16) -> u16
-    requires { k < 250 }
+    requires { k ≤ 250 }
     ensures { result ≡ 6 + 2 * k }
 {
     6 + 2 * k
@@ -27,7 +27,7 @@ fn read_entry(block: &Block<'_>, others: u16, row: &mut Row) -> Result<(), Fault
     ensures more { OnOk result (row.new ≡ entries_in block.now.roster.now block.now.number (length row.old + 1)) }
 {
     let byte = entry_byte(row.len());
-    let named = u16::read(block, byte);
+    let named = u16::from_block(block, byte);
     if named >= others {
         return Err(Fault::EntryTooHigh {
             block: block.number,

@@ -4,9 +4,9 @@ ghost use Rattle.std.specs.Result.{result_err};
 ghost use Rattle.roster.specs.Layout.{two_at, kind_of, span_on, list_in, lists_in};
 ghost use Rattle.roster.specs.FirstFault.{fields_fault, party_fault, span_fault};
 
-use crate::blocks::Block;
+use crate::blocks::{Block, CHECKED};
 use crate::halves::Half;
-use crate::reading::read_entries;
+use crate::reading::{entry_byte, read_entries};
 use crate::rows::Row;
 use lists::faults::Fault;
 use lists::parties::Side;
@@ -60,12 +60,12 @@ impl<'a> Span<'a> {
         ensures value { IfOk result (λ n. (n ≡ two_at self.now.roster.now (self.now.first + party) 4) × (n ≤ 250)) }
     {
         let block = self.block(party);
-        block.check_sum()?;
+        block.check_seal()?;
         block.check(0, kind(self.side))?;
         block.check(1, 0u8)?;
         block.check(2, party)?;
         let len = block.bounded(4, self.others)?;
-        block.check_zeros(6 + 2 * len, 508)?;
+        block.check_zeros(entry_byte(len)..CHECKED)?;
         Ok(len)
     }
 

@@ -9,5 +9,5 @@ returns-clause-more c =
     let at = c.entry_byte-byte.ensures ∙ ap (λ (k : ℕ). 6 + 2 * k) c.len.ensures in
     let more = map-range_with_len_more (λ k. named (6 + 2 * k)) 0 (length c.args.row.now) (length c.args.row.now) (omega arith) in
     c.push.ensures
-    ∙ ap₂ (λ (xs : List ℕ) (v : ℕ). xs ++ v ∷ []) c.requires.before (c.read-named.ensures ∙ ap named at)
+    ∙ ap₂ (λ (xs : List ℕ) (v : ℕ). xs ++ v ∷ []) c.requires.before (c.from_block-named.ensures ∙ ap named at)
     ∙ sym more
