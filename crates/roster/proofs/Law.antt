@@ -1,6 +1,6 @@
 -- A roster without a fault is the lists that it shows laid down, and lawful lists laid down are such a roster.
 use Rattle.std.proofs.Common.{◌≡◌, ℕ, ◌+◌, ◌-◌, ◌*◌, ◌%◌, ◌<◌, ◌≤◌, true, ◌&&◌, eqb, ltb, leb, List, [], length, get_or, None, sym, ap, ◌∙◌, subst, ap₂, ⊎_elim, arith}
-use Rattle.std.proofs.lemmas.Bool.{cases_lt, cases_eq, eqb-true, eq-eqb}
+use Rattle.std.proofs.lemmas.Bool.{cases_lt, cases_eq}
 use Rattle.std.proofs.lemmas.Bool.Decides.{nat_tests}
 use Rattle.lists.specs.Rankings.{Rankings, Lawful}
 use Rattle.lists.specs.declared.faults.Fault.TheVariants.{RosterLength}
@@ -11,10 +11,10 @@ use Rattle.roster.specs.LaidDown.{head_text, party_text, laid_down, RostersAreLi
 use Rattle.lists.proofs.Earliest.{none_first, none_second, or_none}
 use Rattle.roster.proofs.HeadBlocks.{Head, head_fits, fits_head, head_reads, reads_head, reads_crews, reads_sites}
 use Rattle.roster.proofs.Laying.{Short, same_blocks, laid_length, laid_head, laid_crew, laid_site}
-use Rattle.roster.proofs.PartyBlocks.{unless_true}
 use Rattle.roster.proofs.Sealed.{Reads, Laid, reads_laid, laid_reads}
-use Rattle.roster.proofs.Shown.{unless_none, span_length, lawful_shown}
+use Rattle.roster.proofs.Shown.{span_length, lawful_shown}
 use Rattle.roster.proofs.SpanBlocks.{span_laid, list_few, span_none, span_shows, none_returned}
+use Rattle.roster.proofs.Tests.{unless_true, none_equal, equal_none}
 
 -- what each fault that is absent says
 record Faultless (bs : List ℕ) : Type 0 where
@@ -34,7 +34,7 @@ faultless bs e =
     let e5 = none_second (span_fault bs (span_of_sites bs)) _ e4 in
     record {
       head = head_fits bs (none_first _ _ e1);
-      whole = eqb-true _ _ (unless_none _ RosterLength (none_first _ _ e2));
+      whole = none_equal _ _ RosterLength (none_first _ _ e2);
       crews_none = none_first _ _ e3;
       sites_none = none_first _ _ e4;
       crews_back = none_first _ _ e5;
@@ -146,7 +146,7 @@ module _ (L : Rankings) (lawful : Lawful L) (nc : length L.crews ≤ 250) (ns : 
   laid_length_none = unless_true _ RosterLength (good_length (length (laid_down L)) (1 + length L.crews + length L.sites) long (omega arith) (omega arith))
 
   laid_blocks_none : blocks_fault (laid_down L) ≡ None
-  laid_blocks_none = unless_true _ RosterLength (eq-eqb _ _ (let a = ec in let b = es in let n = long in omega arith))
+  laid_blocks_none = equal_none _ _ RosterLength (let a = ec in let b = es in let n = long in omega arith)
 
   laid_none : first_fault (laid_down L) ≡ None
   laid_none =

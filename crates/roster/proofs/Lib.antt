@@ -1,11 +1,14 @@
 pub mod HeadBlocks
 pub mod Law
 pub mod Laying
+pub mod Numbers
 pub mod PartyBlocks
 pub mod Placing
 pub mod Sealed
 pub mod Shown
 pub mod SpanBlocks
+pub mod Steps
+pub mod Tests
 pub mod Texts
 pub mod Weights
 pub mod Zeros

@@ -1,8 +1,8 @@
 -- The lists that a roster without faults shows are lawful.
-use Rattle.std.proofs.Common.{◌≡◌, ℕ, ◌+◌, ◌*◌, ◌<◌, ◌≤◌, Bool, true, false, ltb, List, [], length, get_or, None, sym, refl, ap, ap₂, ◌∙◌, subst, ⊎_elim, arith}
+use Rattle.std.proofs.Common.{◌≡◌, ℕ, ◌+◌, ◌*◌, ◌<◌, ◌≤◌, ltb, List, [], length, get_or, None, sym, ap, ap₂, ◌∙◌, subst, ⊎_elim, arith}
 use Rattle.std.proofs.lemmas.List.FromFn.{get_or-map-range_with_len, length-map-range_with_len}
 use Rattle.std.proofs.lemmas.List.{get_or_past}
-use Rattle.std.proofs.lemmas.Bool.{cases_lt, cases_order, ltb-true, leb-true}
+use Rattle.std.proofs.lemmas.Bool.{cases_lt, cases_order}
 use Rattle.lists.specs.Rankings.{Rankings, Lawful, place}
 use Rattle.lists.specs.Evidence.Places.{get_or_place, place_first}
 use Rattle.lists.specs.declared.faults.Fault.TheVariants.{EntryTooHigh, EntryRepeated, EntryUnreturned}
@@ -12,10 +12,7 @@ use Rattle.roster.specs.Layout.{Span, two_at, entries, list_in, lists_in, span_o
 use Rattle.roster.specs.FirstFault.{entry_fault, fields_fault, party_fault, span_fault, return_fault, returns_fault}
 use Rattle.roster.specs.Held.{both_of}
 use Rattle.lists.proofs.Earliest.{earliest_each, none_first, none_second}
-
-pub unless_none : {X : Type 0} (t : Bool) (x : X) → unless t x ≡ None → t ≡ true
-unless_none true x e = refl
-unless_none false x e = absurd (let z : ◌≡◌ {A = ℕ} 0 1 = cc in omega arith)
+use Rattle.roster.proofs.Tests.{none_most, none_below}
 
 -- lists of one side
 abbrev pub Within : List (List ℕ) → ℕ → Type 0
@@ -49,11 +46,11 @@ entries_at bs b n k l = get_or-map-range_with_len (λ j. two_at bs b (6 + 2 * j)
 -- an entry without a fault
 module _ (bs : List ℕ) (b n k : ℕ) (e : entry_fault bs b n k ≡ None) where
   pub entry_low : two_at bs b (6 + 2 * k) < n
-  entry_low = ltb-true _ _ (unless_none _ (EntryTooHigh b (6 + 2 * k)) (none_first _ _ e))
+  entry_low = none_below _ _ (EntryTooHigh b (6 + 2 * k)) (none_first _ _ e)
 
   pub entry_new : k ≤ place (entries bs b k) (two_at bs b (6 + 2 * k))
-  entry_new = leb-true _ _ (unless_none _ (EntryRepeated b (6 + 2 * k))
-      (none_second (unless (ltb (two_at bs b (6 + 2 * k)) n) (EntryTooHigh b (6 + 2 * k))) _ e))
+  entry_new = none_most _ _ (EntryRepeated b (6 + 2 * k))
+      (none_second (unless (ltb (two_at bs b (6 + 2 * k)) n) (EntryTooHigh b (6 + 2 * k))) _ e)
 
 -- two equal entries: the later one would be repeated
 pub entries_apart : (bs : List ℕ) (b n k m : ℕ) → entry_fault bs b n m ≡ None → k < m → two_at bs b (6 + 2 * k) ≡ two_at bs b (6 + 2 * m) → ⊥
@@ -106,7 +103,7 @@ returned_none own back first e i j h =
     let f = earliest_each (length own) (λ (p : ℕ). earliest (length (get_or own p [])) (return_fault back (first + p) p (get_or own p []))) e i (party_below own i k h) in
     let g = earliest_each (length xs) (return_fault back (first + i) i xs) f k h in
     subst (λ (v : ℕ). place (get_or back v []) i < length (get_or back v [])) (get_or_place xs j h)
-    (ltb-true _ _ (unless_none _ (EntryUnreturned (first + i) (6 + 2 * k)) g))
+    (none_below _ _ (EntryUnreturned (first + i) (6 + 2 * k)) g)
 
 -- lawful, side by side
 pub lawful_halves : (L : Rankings) → length L.crews ≤ 500 → length L.sites ≤ 500

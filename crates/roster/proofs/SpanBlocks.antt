@@ -1,7 +1,6 @@
 -- The blocks of one side without a fault are its lists laid down, and the other way round.
 use Rattle.std.proofs.Common.{◌≡◌, ℕ, ◌+◌, ◌*◌, ◌<◌, ◌≤◌, List, [], length, get_or, None, sym, refl, ◌∙◌, subst, arith}
 use Rattle.std.proofs.lemmas.List.FromFn.{fill_by_all}
-use Rattle.std.proofs.lemmas.Bool.{lt-ltb, le-leb}
 use Rattle.lists.specs.Rankings.{place}
 use Rattle.lists.specs.Evidence.Places.{no_place, place_first}
 use Rattle.lists.specs.declared.faults.Fault.TheVariants.{EntryTooHigh, EntryRepeated, EntryUnreturned}
@@ -11,10 +10,11 @@ use Rattle.roster.specs.FirstFault.{fields_fault, entry_fault, party_fault, span
 use Rattle.roster.specs.LaidDown.{party_text}
 use Rattle.lists.proofs.Earliest.{none_first, or_none, earliest_each, each_earliest}
 use Rattle.roster.proofs.Laying.{Short, party_short}
-use Rattle.roster.proofs.PartyBlocks.{Party, unless_true, party_reads, reads_party, fields_party, list_bound, party_list, party_fields}
+use Rattle.roster.proofs.PartyBlocks.{Party, party_reads, reads_party, fields_party, list_bound, party_list, party_fields}
 use Rattle.lists.proofs.Pigeonhole.{pigeonhole}
 use Rattle.roster.proofs.Sealed.{Laid, reads_laid, laid_reads}
 use Rattle.roster.proofs.Shown.{Within, Once, Returned, span_list, entries_at, entries_length}
+use Rattle.roster.proofs.Tests.{below_none, most_none}
 use Rattle.roster.proofs.Texts.{party_length}
 
 -- from no fault to the lists laid down
@@ -69,8 +69,8 @@ module _ (bs : List ℕ) (s : Span) (ls : List (List ℕ)) (few : s.others ≤ 2
       let sh = short i in
       let t = (party i l).table k (omega arith) in
       let w = within i k h in
-      or_none _ _ (unless_true _ (EntryTooHigh (s.first + i) (6 + 2 * k)) (lt-ltb _ _ (omega arith)))
-      (unless_true _ (EntryRepeated (s.first + i) (6 + 2 * k)) (le-leb _ _ (new_entry i k l h)))
+      or_none _ _ (below_none _ _ (EntryTooHigh (s.first + i) (6 + 2 * k)) (omega arith))
+      (most_none _ _ (EntryRepeated (s.first + i) (6 + 2 * k)) (new_entry i k l h))
 
   party_none : (i : ℕ) → i < s.count → party_fault bs s i ≡ None
   party_none i c =
@@ -91,5 +91,5 @@ pub none_returned : (own back : List (List ℕ)) (first : ℕ) → Returned own 
 none_returned own back first h =
     each_earliest (length own) (λ i. earliest (length (get_or own i [])) (return_fault back (first + i) i (get_or own i [])))
     (λ i l. each_earliest (length (get_or own i [])) (return_fault back (first + i) i (get_or own i [])) (λ k b.
-    unless_true _ (EntryUnreturned (first + i) (6 + 2 * k)) (lt-ltb _ _
-    (h i (get_or (get_or own i []) k 0) (let f = place_first (get_or own i []) (get_or (get_or own i []) k 0) k b refl in omega arith)))))
+    below_none _ _ (EntryUnreturned (first + i) (6 + 2 * k))
+    (h i (get_or (get_or own i []) k 0) (let f = place_first (get_or own i []) (get_or (get_or own i []) k 0) k b refl in omega arith))))
