@@ -4,7 +4,9 @@ use Rattle.std.proofs.lemmas.List.FromFn.{fill_by_all}
 use Rattle.std.proofs.lemmas.List.{get_or_past}
 use Rattle.std.proofs.lemmas.Bool.{cases_lt, cases_eq}
 use Rattle.lists.specs.declared.faults.Fault.TheVariants.{BlockCheck, BlockField}
-use Rattle.roster.specs.Layout.{Span, byte_at, two_at, four_at, seal, list_in}
+use Rattle.lists.specs.declared.parties.Side.{Side}
+use Rattle.lists.specs.Sides.{other}
+use Rattle.roster.specs.Layout.{kind_of, count_on, block_of, byte_at, two_at, four_at, seal, list_in}
 use Rattle.roster.specs.FirstFault.{check_fault, byte_fault, number_fault, bound_fault, zero_fault, fields_fault}
 use Rattle.roster.specs.LaidDown.{party_text}
 use Rattle.lists.proofs.Earliest.{none_first, none_second, or_none, earliest_each, each_earliest}
@@ -70,19 +72,19 @@ module _ (bs : List ℕ) (b kind i : ℕ) (xs : List ℕ) where
   }
 
 -- what the faults that a party's fields lack say
-record Fields (bs : List ℕ) (s : Span) (i : ℕ) : Type 0 where
-  fitting : seal (byte_at bs (s.first + i)) ≡ four_at bs (s.first + i) 508
-  sort : byte_at bs (s.first + i) 0 ≡ s.kind
-  plain : byte_at bs (s.first + i) 1 ≡ 0
-  number : two_at bs (s.first + i) 2 ≡ i
-  bound : two_at bs (s.first + i) 4 ≤ s.others
-  behind : (j : ℕ) → 6 + 2 * two_at bs (s.first + i) 4 ≤ j → j < 508 → byte_at bs (s.first + i) j ≡ 0
+record Fields (bs : List ℕ) (s : Side) (i : ℕ) : Type 0 where
+  fitting : seal (byte_at bs (block_of bs s i)) ≡ four_at bs (block_of bs s i) 508
+  sort : byte_at bs (block_of bs s i) 0 ≡ (kind_of s)
+  plain : byte_at bs (block_of bs s i) 1 ≡ 0
+  number : two_at bs (block_of bs s i) 2 ≡ i
+  bound : two_at bs (block_of bs s i) 4 ≤ (count_on bs (other s))
+  behind : (j : ℕ) → 6 + 2 * two_at bs (block_of bs s i) 4 ≤ j → j < 508 → byte_at bs (block_of bs s i) j ≡ 0
 
-fields_fit : (bs : List ℕ) (s : Span) (i : ℕ) → fields_fault bs s i ≡ None → Fields bs s i
+fields_fit : (bs : List ℕ) (s : Side) (i : ℕ) → fields_fault bs s i ≡ None → Fields bs s i
 fields_fit bs s i e =
-    let b = s.first + i in
+    let b = block_of bs s i in
     let e1 = none_second (check_fault bs b) _ e in
-    let e2 = none_second (byte_fault bs b 0 s.kind) _ e1 in
+    let e2 = none_second (byte_fault bs b 0 (kind_of s)) _ e1 in
     let e3 = none_second (byte_fault bs b 1 0) _ e2 in
     let e4 = none_second (number_fault bs b 2 i) _ e3 in
     record {
@@ -91,33 +93,33 @@ fields_fit bs s i e =
       plain = none_equal _ _ (BlockField b 1) (none_first _ _ e2);
       number = none_equal _ _ (BlockField b 2) (none_first _ _ e3);
       bound = none_most _ _ (BlockField b 4) (none_first _ _ e4);
-      behind = zeros_fit bs b (6 + 2 * two_at bs b 4) 508 (none_second (bound_fault bs b 4 s.others) _ e4);
+      behind = zeros_fit bs b (6 + 2 * two_at bs b 4) 508 (none_second (bound_fault bs b 4 (count_on bs (other s))) _ e4);
     }
 
 -- a block whose fields have no fault holds its own list
-module _ (bs : List ℕ) (s : Span) (i : ℕ) (few : s.others ≤ 250) (e : fields_fault bs s i ≡ None) where
-  pub list_bound : two_at bs (s.first + i) 4 ≤ s.others
+module _ (bs : List ℕ) (s : Side) (i : ℕ) (few : (count_on bs (other s)) ≤ 250) (e : fields_fault bs s i ≡ None) where
+  pub list_bound : two_at bs (block_of bs s i) 4 ≤ (count_on bs (other s))
   list_bound = (fields_fit bs s i e).bound
 
-  entry_table : (k : ℕ) → k < 251 → two_at bs (s.first + i) (6 + 2 * k) ≡ get_or (list_in bs (s.first + i)) k 0
+  entry_table : (k : ℕ) → k < 251 → two_at bs (block_of bs s i) (6 + 2 * k) ≡ get_or (list_in bs (block_of bs s i)) k 0
   entry_table k l = ⊎_elim
-      (λ h. sym (entries_at bs (s.first + i) (two_at bs (s.first + i) 4) k h))
+      (λ h. sym (entries_at bs (block_of bs s i) (two_at bs (block_of bs s i) 4) k h))
       (λ h.
       let p = (fields_fit bs s i e).behind (6 + 2 * k) (omega arith) (omega arith) in
       let q = (fields_fit bs s i e).behind (6 + 2 * k + 1) (omega arith) (omega arith) in
-      let n = entries_length bs (s.first + i) (two_at bs (s.first + i) 4) in
-      let z : two_at bs (s.first + i) (6 + 2 * k) ≡ 0 = omega arith in
-      z ∙ sym (get_or_past (list_in bs (s.first + i)) k 0 (omega arith)))
-      (cases_lt k (two_at bs (s.first + i) 4))
+      let n = entries_length bs (block_of bs s i) (two_at bs (block_of bs s i) 4) in
+      let z : two_at bs (block_of bs s i) (6 + 2 * k) ≡ 0 = omega arith in
+      z ∙ sym (get_or_past (list_in bs (block_of bs s i)) k 0 (omega arith)))
+      (cases_lt k (two_at bs (block_of bs s i) 4))
 
-  pub fields_party : Party bs (s.first + i) s.kind i (list_in bs (s.first + i))
+  pub fields_party : Party bs (block_of bs s i) (kind_of s) i (list_in bs (block_of bs s i))
   fields_party =
       let f = fields_fit bs s i e in
       record {
         sort = f.sort;
         plain = f.plain;
         number = f.number;
-        len = sym (entries_length bs (s.first + i) (two_at bs (s.first + i) 4));
+        len = sym (entries_length bs (block_of bs s i) (two_at bs (block_of bs s i) 4));
         table = entry_table;
         fitting = f.fitting;
       }
@@ -140,13 +142,13 @@ module _ (bs : List ℕ) (b kind i : ℕ) (xs : List ℕ) (short : length xs ≤
       (λ z. let p : 6 + 2 * k + 1 ≡ j = omega arith in subst (λ (x : ℕ). byte_at bs b x ≡ 0) p (omega arith))
       (cases_eq ((j - 6) % 2) 0)
 
-pub party_fields : (bs : List ℕ) (s : Span) (i : ℕ) (xs : List ℕ) → length xs ≤ 250 → length xs ≤ s.others
-    → Party bs (s.first + i) s.kind i xs → fields_fault bs s i ≡ None
+pub party_fields : (bs : List ℕ) (s : Side) (i : ℕ) (xs : List ℕ) → length xs ≤ 250 → length xs ≤ (count_on bs (other s))
+    → Party bs (block_of bs s i) (kind_of s) i xs → fields_fault bs s i ≡ None
 party_fields bs s i xs short bound h =
     let n = h.len in
-    or_none _ _ (equal_none _ _ (BlockCheck (s.first + i)) h.fitting)
-    (or_none _ _ (equal_none _ _ (BlockField (s.first + i) 0) h.sort)
-    (or_none _ _ (equal_none _ _ (BlockField (s.first + i) 1) h.plain)
-    (or_none _ _ (equal_none _ _ (BlockField (s.first + i) 2) h.number)
-    (or_none _ _ (most_none _ _ (BlockField (s.first + i) 4) (omega arith))
-    (fit_zeros bs (s.first + i) (6 + 2 * two_at bs (s.first + i) 4) 508 (party_behind bs (s.first + i) s.kind i xs short h))))))
+    or_none _ _ (equal_none _ _ (BlockCheck (block_of bs s i)) h.fitting)
+    (or_none _ _ (equal_none _ _ (BlockField (block_of bs s i) 0) h.sort)
+    (or_none _ _ (equal_none _ _ (BlockField (block_of bs s i) 1) h.plain)
+    (or_none _ _ (equal_none _ _ (BlockField (block_of bs s i) 2) h.number)
+    (or_none _ _ (most_none _ _ (BlockField (block_of bs s i) 4) (omega arith))
+    (fit_zeros bs (block_of bs s i) (6 + 2 * two_at bs (block_of bs s i) 4) 508 (party_behind bs (block_of bs s i) (kind_of s) i xs short h))))))

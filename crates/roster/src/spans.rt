@@ -1,8 +1,9 @@
 // The blocks of one side, and the lists in them.
 ghost use Rattle.std.specs.Prelude.{◌≡◌, ◌+◌, ◌*◌, ◌<◌, ◌≤◌, length, IfOk};
 ghost use Rattle.std.specs.Result.{result_err};
-ghost use Rattle.roster.specs.Layout.{two_at, kind_of, span_on, list_in, lists_in};
-ghost use Rattle.roster.specs.FirstFault.{fields_fault, party_fault, span_fault};
+ghost use Rattle.lists.specs.Sides.{other};
+ghost use Rattle.roster.specs.Layout.{two_at, kind_of, count_on, first_on, block_of, list_in, lists_in};
+ghost use Rattle.roster.specs.FirstFault.{fields_fault, party_fault, side_fault};
 
 use crate::blocks::{Block, CHECKED};
 use crate::halves::Half;
@@ -22,9 +23,9 @@ pub(crate) struct Span<'a> {
     pub count: u16,
     // How many parties the other side has.
     pub others: u16,
-    ghost first_shown: { first ≡ (span_on roster.now side).first },
-    ghost count_shown: { count ≡ (span_on roster.now side).count },
-    ghost others_shown: { others ≡ (span_on roster.now side).others },
+    ghost first_shown: { first ≡ first_on roster.now side },
+    ghost count_shown: { count ≡ count_on roster.now side },
+    ghost others_shown: { others ≡ count_on roster.now (other side) },
     ghost within: { 512 * (first + count) ≤ length roster.now },
     ghost few: { count ≤ 250 },
     ghost few_others: { others ≤ 250 },
@@ -56,7 +57,7 @@ impl<'a> Span<'a> {
     // The fields of a party's block; the answer is the length of its list.
     fn read_fields(&self, party: u16) -> Result<u16, Fault>
         requires { party < self.now.count }
-        ensures fault { result_err result ≡ fields_fault self.now.roster.now (span_on self.now.roster.now self.now.side) party }
+        ensures fault { result_err result ≡ fields_fault self.now.roster.now self.now.side party }
         ensures value { IfOk result (λ n. (n ≡ two_at self.now.roster.now (self.now.first + party) 4) × (n ≤ 250)) }
     {
         let block = self.block(party);
@@ -72,8 +73,8 @@ impl<'a> Span<'a> {
     // One party's list.
     fn read_party(&self, party: u16) -> Result<Row, Fault>
         requires { party < self.now.count }
-        ensures fault { result_err result ≡ party_fault self.now.roster.now (span_on self.now.roster.now self.now.side) party }
-        ensures value { IfOk result (λ row. row ≡ list_in self.now.roster.now ((span_on self.now.roster.now self.now.side).first + party)) }
+        ensures fault { result_err result ≡ party_fault self.now.roster.now self.now.side party }
+        ensures value { IfOk result (λ row. row ≡ list_in self.now.roster.now (block_of self.now.roster.now self.now.side party)) }
     {
         let len = self.read_fields(party)?;
         read_entries(&self.block(party), self.others, len)
@@ -81,8 +82,8 @@ impl<'a> Span<'a> {
 
     // The lists in order.
     pub(crate) fn read(&self) -> Result<Half, Fault>
-        ensures fault { result_err result ≡ span_fault self.now.roster.now (span_on self.now.roster.now self.now.side) }
-        ensures value { IfOk result (λ half. half ≡ lists_in self.now.roster.now (span_on self.now.roster.now self.now.side)) }
+        ensures fault { result_err result ≡ side_fault self.now.roster.now self.now.side }
+        ensures value { IfOk result (λ half. half ≡ lists_in self.now.roster.now self.now.side) }
     {
         let mut half = Half::default();
         for party in 0..self.count {

@@ -1,7 +1,6 @@
-use Rattle.std.proofs.Common.{ℕ, List, ap, ap₂, ◌∙◌, arith}
-use Rattle.lists.specs.declared.parties.Side.{Side}
-use Rattle.roster.specs.Layout.{two_at, span_on, lists_in}
-use Rattle.roster.specs.FirstFault.{span_fault, returns_fault}
+use Rattle.std.proofs.Common.{ℕ, List, sym, ap, ap₂, ◌∙◌, arith}
+use Rattle.roster.specs.Layout.{two_at, first_on, lists_in}
+use Rattle.roster.specs.FirstFault.{side_fault, returns_fault}
 use Rattle.roster.proofs.Law.{rosters_are_lists_laid_down}
 use Rattle.roster.proofs.Shown.{lawful_read}
 use Rattle.roster.proofs.reader.read.Goals as goal
@@ -16,18 +15,15 @@ invariant_of-result c =
     let cd = c.span-crew_blocks.ensures.1 in
     let sr = c.span-site_blocks.ensures.0 ∙ same in
     let sd = c.span-site_blocks.ensures.1 in
-    let lists = λ (r : List ℕ) (d : Side). lists_in r (span_on r d) in
-    let fault = λ (r : List ℕ) (d : Side). span_fault r (span_on r d) in
-    let first = λ (r : List ℕ) (d : Side). (span_on r d).first in
     let nc = head.crews_shown ∙ ap (λ (r : List ℕ). two_at r 0 4) same in
     let ns = head.sites_shown ∙ ap (λ (r : List ℕ). two_at r 0 6) same in
     record {
       kept = ∣ lawful_read c.args.bytes.now crews.crews sites.sites
-          (crews.ensures.value ∙ ap₂ lists cr cd) (sites.ensures.value ∙ ap₂ lists sr sd)
+          (crews.ensures.value ∙ ap₂ lists_in cr cd) (sites.ensures.value ∙ ap₂ lists_in sr sd)
           (omega arith) (omega arith)
-          (crews.ensures.fault ∙ ap₂ fault cr cd) (sites.ensures.fault ∙ ap₂ fault sr sd)
-          (c.in_ok-check_returns.ensures ∙ ap (returns_fault crews.crews sites.sites) (c.span-crew_blocks.result.first_shown ∙ ap₂ first cr cd))
-          (c.in_ok-check_returns-2.ensures ∙ ap (returns_fault sites.sites crews.crews) (c.span-site_blocks.result.first_shown ∙ ap₂ first sr sd)) ∣₁;
+          (sym (crews.ensures.fault ∙ ap₂ side_fault cr cd)) (sym (sites.ensures.fault ∙ ap₂ side_fault sr sd))
+          (sym (c.in_ok-check_returns.ensures ∙ ap (returns_fault crews.crews sites.sites) (c.span-crew_blocks.result.first_shown ∙ ap₂ first_on cr cd)))
+          (sym (c.in_ok-check_returns-2.ensures ∙ ap (returns_fault sites.sites crews.crews) (c.span-site_blocks.result.first_shown ∙ ap₂ first_on sr sd))) ∣₁;
     }
 
 pub returns-in_err-check_length-clause-law : goal.returns-in_err-check_length-clause-law
