@@ -6,16 +6,6 @@ use Rattle.roster.proofs.blocks.Block.weight.Goals as goal
 pub loop-at-init : goal.loop-at-init
 loop-at-init c = record { so_far = sym (weighted_none _); bound = omega arith }
 
-pub overflow_mul-sum : goal.overflow_mul-sum
-overflow_mul-sum c =
-    let b = weight_bound c.loop-at.at c.from.result (omega arith) (omega arith) in
-    omega arith
-
-pub overflow_add-sum-in-loop-at : goal.overflow_add-sum-in-loop-at
-overflow_add-sum-in-loop-at c =
-    let b = weight_bound c.loop-at.at c.from.result (omega arith) (omega arith) in
-    omega arith
-
 pub loop-at-preserved : goal.loop-at-preserved
 loop-at-preserved c =
     let b = weight_bound c.loop-at.at c.from.result (omega arith) (omega arith) in

@@ -1,9 +1,8 @@
-use Rattle.std.proofs.Common.{◌≡◌, ℕ, ◌+◌, List, [], ◌∷◌, ◌++◌, length, None, sym, ap, ◌∙◌, subst, ap₂, arith}
+use Rattle.std.proofs.Common.{ℕ, ◌+◌, List, [], ◌∷◌, ◌++◌, length, sym, ap, ◌∙◌, ap₂, arith}
 use Rattle.std.proofs.lemmas.Result.{err_from_is_err_and}
 use Rattle.std.proofs.lemmas.List.FromFn.{map-range_with_len_more, length-map-range_with_len}
-use Rattle.lists.specs.Order.{earliest}
 use Rattle.lists.proofs.Earliest.{earliest_none, earliest_step, earliest_found}
-use Rattle.roster.specs.Layout.{count_on, block_of, list_in}
+use Rattle.roster.specs.Layout.{block_of, list_in}
 use Rattle.roster.specs.FirstFault.{party_fault}
 use Rattle.roster.proofs.spans.Span.read.Goals as goal
 
@@ -30,14 +29,4 @@ loop-party-preserved c =
       none = earliest_step party (party_fault self.roster.now self.side) c.loop-party.invariant.none (sym c.in_ok-read_party.ensures.fault);
       long = ap length read ∙ length-map-range_with_len list 0 (party + 1);
       read = read;
-    }
-
-pub returns : goal.returns
-returns c =
-    let self = c.args.self.now in
-    let shown = self.count_shown in
-    let all : c.loop-party.party ≡ count_on self.roster.now self.side = omega arith in
-    record {
-      fault = sym (subst (λ (n : ℕ). earliest n (party_fault self.roster.now self.side) ≡ None) all c.loop-party.invariant.none);
-      value = rw all at c.loop-party.invariant.read;
     }
