@@ -2,7 +2,6 @@
 ghost use Rattle.std.specs.Prelude.{◌≡◌};
 ghost use Rattle.lists.specs.Rankings.{half as lists_on, Lawful};
 ghost use Rattle.roster.specs.Held.{both_of};
-ghost use Rattle.roster.specs.Evidence.{both_lawful};
 
 use crate::halves::Half;
 use lists::interface::Lists;
@@ -13,7 +12,7 @@ use lists::parties::{Party, Side};
 pub struct Roster {
     pub(crate) crews: Half,
     pub(crate) sites: Half,
-    ghost kept: { ∥ Lawful (both_of crews sites) ∥₁ },
+    ghost kept: { Lawful (both_of crews sites) },
 }
 
 impl Roster {
@@ -31,7 +30,7 @@ impl Roster {
 impl Lists for Roster {
     ghost meaning = { λ x. both_of x.crews x.sites };
 
-    ghost lawful = { λ x. both_lawful x.crews x.sites x.kept };
+    ghost lawful = { λ x. x.kept };
 
     fn count(&self, side: Side) -> u16 {
         self.half(side).count()

@@ -18,12 +18,12 @@ invariant_of-result c =
     let nc = head.crews_shown ∙ ap (λ (r : List ℕ). two_at r 0 4) same in
     let ns = head.sites_shown ∙ ap (λ (r : List ℕ). two_at r 0 6) same in
     record {
-      kept = ∣ lawful_read c.args.bytes.now crews.crews sites.sites
+      kept = lawful_read c.args.bytes.now crews.crews sites.sites
           (crews.ensures.value ∙ ap₂ lists_in cr cd) (sites.ensures.value ∙ ap₂ lists_in sr sd)
           (omega arith) (omega arith)
           (sym (crews.ensures.fault ∙ ap₂ side_fault cr cd)) (sym (sites.ensures.fault ∙ ap₂ side_fault sr sd))
           (sym (c.in_ok-check_returns.ensures ∙ ap (returns_fault crews.crews sites.sites) (c.span-crew_blocks.result.first_shown ∙ ap₂ first_on cr cd)))
-          (sym (c.in_ok-check_returns-2.ensures ∙ ap (returns_fault sites.sites crews.crews) (c.span-site_blocks.result.first_shown ∙ ap₂ first_on sr sd))) ∣₁;
+          (sym (c.in_ok-check_returns-2.ensures ∙ ap (returns_fault sites.sites crews.crews) (c.span-site_blocks.result.first_shown ∙ ap₂ first_on sr sd)));
     }
 
 pub returns-in_err-check_length-clause-law : goal.returns-in_err-check_length-clause-law
