@@ -2,8 +2,10 @@
 use Rattle.std.proofs.Common.{◌≡◌, ℕ, zero, suc, ◌+◌, ◌-◌, ◌*◌, ◌/◌, ◌%◌, ◌<◌, ◌≤◌, List, [], ◌++◌, length, get_or, sym, refl, ap, ◌∙◌, subst, arith}
 use Rattle.std.specs.List.{range_with_len, flat_map}
 use Rattle.std.proofs.lemmas.List.{get_or_append_left, get_or-append_right, length-append, ext_get_or}
-use Rattle.lists.specs.Rankings.{Rankings}
-use Rattle.roster.specs.Layout.{byte_at}
+use Rattle.lists.specs.Rankings.{Rankings, half, size}
+use Rattle.lists.specs.declared.parties.Side.{Side}
+use Rattle.lists.specs.declared.parties.Side.TheVariants.{Crew, Site}
+use Rattle.roster.specs.Layout.{byte_at, kind_of}
 use Rattle.roster.specs.LaidDown.{block, head_text, party_text, side_blocks, laid_down}
 use Rattle.roster.proofs.Sealed.{Laid, block_length}
 use Rattle.roster.proofs.Texts.{party_length}
@@ -72,15 +74,23 @@ module _ (kind : ℕ) (ls : List (List ℕ)) (short : Short ls) where
       blocks_at (λ k. block (party_text kind k (get_or ls k []))) party_whole 0 (length ls) i j l h
       ∙ ap (λ (k : ℕ). get_or (block (party_text kind k (get_or ls k []))) j 0) z
 
-module _ (L : Rankings) (sc : Short L.crews) (ss : Short L.sites) where
+-- the block of a side's party 0
+abbrev pub first_in : Rankings → Side → ℕ
+first_in L Crew = 1
+first_in L Site = 1 + length L.crews
+
+module _ (L : Rankings) (short : (s : Side) → Short (half L s)) where
   head_whole : length (block (head_text L)) ≡ 512 * 1
   head_whole = block_length (head_text L) (omega arith)
+
+  crews_length : length (side_blocks 2 L.crews) ≡ 512 * length L.crews
+  crews_length = side_blocks_length 2 L.crews (short Crew)
 
   pub laid_length : length (laid_down L) ≡ 512 * (1 + length L.crews + length L.sites)
   laid_length =
       let h = head_whole in
-      let c = side_blocks_length 2 L.crews sc in
-      let s = side_blocks_length 3 L.sites ss in
+      let c = crews_length in
+      let s = side_blocks_length 3 L.sites (short Site) in
       let p = length-append (block (head_text L)) (side_blocks 2 L.crews ++ side_blocks 3 L.sites) in
       let q = length-append (side_blocks 2 L.crews) (side_blocks 3 L.sites) in
       omega arith
@@ -91,16 +101,19 @@ module _ (L : Rankings) (sc : Short L.crews) (ss : Short L.sites) where
       before_at (block (head_text L)) (side_blocks 2 L.crews ++ side_blocks 3 L.sites) 1 head_whole 0 i (omega arith) l
       ∙ ap (λ (k : ℕ). get_or (block (head_text L)) k 0) z
 
-  pub laid_crew : (i : ℕ) → i < length L.crews → Laid (laid_down L) (1 + i) (party_text 2 i (get_or L.crews i []))
-  laid_crew i l j h =
-      behind_at (block (head_text L)) (side_blocks 2 L.crews ++ side_blocks 3 L.sites) 1 head_whole i j
-      ∙ before_at (side_blocks 2 L.crews) (side_blocks 3 L.sites) (length L.crews) (side_blocks_length 2 L.crews sc) i j l h
-      ∙ side_blocks_at 2 L.crews sc i l j h
+  -- behind block 0
+  behind_head : (b i : ℕ) → byte_at (laid_down L) (1 + b) i ≡ byte_at (side_blocks 2 L.crews ++ side_blocks 3 L.sites) b i
+  behind_head = behind_at (block (head_text L)) (side_blocks 2 L.crews ++ side_blocks 3 L.sites) 1 head_whole
 
-  pub laid_site : (i : ℕ) → i < length L.sites → Laid (laid_down L) (1 + length L.crews + i) (party_text 3 i (get_or L.sites i []))
-  laid_site i l j h =
-      let z : 1 + length L.crews + i ≡ 1 + (length L.crews + i) = omega arith in
-      ap (λ (b : ℕ). byte_at (laid_down L) b j) z
-      ∙ behind_at (block (head_text L)) (side_blocks 2 L.crews ++ side_blocks 3 L.sites) 1 head_whole (length L.crews + i) j
-      ∙ behind_at (side_blocks 2 L.crews) (side_blocks 3 L.sites) (length L.crews) (side_blocks_length 2 L.crews sc) i j
-      ∙ side_blocks_at 3 L.sites ss i l j h
+  pub laid_on : (s : Side) (b i : ℕ) → first_in L s + i ≡ b → i < size L s → Laid (laid_down L) b (party_text (kind_of s) i (get_or (half L s) i []))
+  laid_on Crew b i e l j h =
+      rw (← e)
+      (behind_head i j
+      ∙ before_at (side_blocks 2 L.crews) (side_blocks 3 L.sites) (length L.crews) crews_length i j l h
+      ∙ side_blocks_at 2 L.crews (short Crew) i l j h)
+  laid_on Site b i e l j h =
+      let z : 1 + (length L.crews + i) ≡ b = omega arith in
+      rw (← z)
+      (behind_head (length L.crews + i) j
+      ∙ behind_at (side_blocks 2 L.crews) (side_blocks 3 L.sites) (length L.crews) crews_length i j
+      ∙ side_blocks_at 3 L.sites (short Site) i l j h)

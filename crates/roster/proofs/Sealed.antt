@@ -1,9 +1,11 @@
 -- A block is its text laid down exactly if its bytes are the text's and its check fits.
-use Rattle.std.proofs.Common.{◌≡◌, ℕ, ◌+◌, ◌-◌, ◌*◌, ◌/◌, ◌%◌, ◌<◌, ◌≤◌, List, length, get_or, replicate, sym, refl, ap, ◌∙◌, subst, ⊎_elim, arith}
+use Rattle.std.proofs.Common.{◌≡◌, ℕ, ◌+◌, ◌-◌, ◌*◌, ◌/◌, ◌%◌, ◌<◌, ◌≤◌, List, length, get_or, replicate, sym, refl, ap, ◌∙◌, ⊎_elim, arith}
 use Rattle.std.proofs.lemmas.List.{get_or_append_left, get_or-append_right, get_or-replicate, get_or_past, length-append, length-replicate}
-use Rattle.std.proofs.lemmas.Bool.{cases_lt, cases_eq}
-use Rattle.roster.specs.Layout.{byte_at, four_at, seal}
+use Rattle.std.proofs.lemmas.Bool.{cases_lt}
+use Rattle.roster.specs.Layout.{byte_at, two_at, four_at, seal}
 use Rattle.roster.specs.LaidDown.{four_bytes, padded, block}
+use Rattle.roster.proofs.Numbers.{high_byte, low_byte, two_back, high_half, low_half, halves_back}
+use Rattle.roster.proofs.Steps.{first_then, none_left}
 use Rattle.roster.proofs.Weights.{weighted_same}
 
 -- zeros behind a text change nothing that is read
@@ -49,73 +51,46 @@ Laid bs b t = (i : ℕ) → i < 512 → byte_at bs b i ≡ get_or (block t) i 0
 same_seal : (bs : List ℕ) (b : ℕ) (t : List ℕ) → ((i : ℕ) → i < 508 → byte_at bs b i ≡ get_or t i 0) → seal (byte_at bs b) ≡ seal (λ k. get_or (padded t) k 0)
 same_seal bs b t h = ap (λ (w : ℕ). w % 131071) (weighted_same (byte_at bs b) (λ k. get_or (padded t) k 0) 508 (λ i l. h i l ∙ sym (padded_at t i)))
 
--- four bytes of a number
-four_back : (n : ℕ) → n < 131071 → 65536 * (256 * (n / 65536 / 256) + n / 65536 % 256) + (256 * (n % 65536 / 256) + n % 65536 % 256) ≡ n
-four_back n l = omega arith
-
-module _ (a b c d n : ℕ) (e : 65536 * (256 * a + b) + (256 * c + d) ≡ n) (lb : b < 256) (lc : c < 256) (ld : d < 256) where
-  first_byte : a ≡ n / 65536 / 256
-  first_byte = omega arith
-
-  second_byte : b ≡ n / 65536 % 256
-  second_byte = omega arith
-
-  third_byte : c ≡ n % 65536 / 256
-  third_byte = omega arith
-
-  fourth_byte : d ≡ n % 65536 % 256
-  fourth_byte = omega arith
-
-last_four : (P : ℕ → Type 0) → P 508 → P 509 → P 510 → P 511 → (i : ℕ) → 508 ≤ i → i < 512 → P i
-last_four P p q r s i l h = ⊎_elim (λ e. subst P (sym e) p)
-    (λ a. ⊎_elim (λ e. subst P (sym e) q)
-    (λ b. ⊎_elim (λ e. subst P (sym e) r)
-    (λ c. let e : 511 ≡ i = omega arith in subst P e s)
-    (cases_eq i 510))
-    (cases_eq i 509))
-    (cases_eq i 508)
-
 module _ (bs : List ℕ) (b : ℕ) (t : List ℕ) (short : length t ≤ 508) where
   pub reads_laid : ((j : ℕ) → get_or bs j 0 < 256) → Reads bs b t → Laid bs b t
   reads_laid low h i l = ⊎_elim
       (λ f. h.bytes i f ∙ sym (block_text t short i f))
-      (λ f. last_four (λ (j : ℕ). byte_at bs b j ≡ get_or (block t) j 0)
-      (first_byte b0 b1 b2 b3 n e (low _) (low _) (low _) ∙ sym (block_check t short 0))
-      (second_byte b0 b1 b2 b3 n e (low _) (low _) (low _) ∙ sym (block_check t short 1))
-      (third_byte b0 b1 b2 b3 n e (low _) (low _) (low _) ∙ sym (block_check t short 2))
-      (fourth_byte b0 b1 b2 b3 n e (low _) (low _) (low _) ∙ sym (block_check t short 3))
-      i f l)
+      (λ f. check i f l)
       (cases_lt i 508)
     where
-      b0 : ℕ
-      b0 = byte_at bs b 508
-
-      b1 : ℕ
-      b1 = byte_at bs b 509
-
-      b2 : ℕ
-      b2 = byte_at bs b 510
-
-      b3 : ℕ
-      b3 = byte_at bs b 511
-
       n : ℕ
       n = seal (λ k. get_or (padded t) k 0)
 
-      e : 65536 * (256 * b0 + b1) + (256 * b2 + b3) ≡ n
-      e = sym h.sealed ∙ same_seal bs b t h.bytes
+      sealed : four_at bs b 508 ≡ n
+      sealed = sym h.sealed ∙ same_seal bs b t h.bytes
+
+      under : (j : ℕ) → two_at bs b j < 65536
+      under j = let x = low (512 * b + j) in let y = low (512 * b + (j + 1)) in omega arith
+
+      high : two_at bs b 508 ≡ n / 65536
+      high = high_half _ _ n sealed (under 510)
+
+      down : two_at bs b 510 ≡ n % 65536
+      down = low_half _ _ n sealed (under 510)
+
+      check : (j : ℕ) → 508 ≤ j → j < 512 → byte_at bs b j ≡ get_or (block t) j 0
+      check =
+          first_then P 512 508 (high_byte _ _ _ high (low _) ∙ sym (block_check t short 0))
+          (first_then P 512 509 (low_byte _ _ _ high (low _) ∙ sym (block_check t short 1))
+          (first_then P 512 510 (high_byte _ _ _ down (low _) ∙ sym (block_check t short 2))
+          (first_then P 512 511 (low_byte _ _ _ down (low _) ∙ sym (block_check t short 3))
+          (none_left P 512 512 (omega arith)))))
+        where
+          P : ℕ → Type 0
+          P j = byte_at bs b j ≡ get_or (block t) j 0
 
   pub laid_reads : Laid bs b t → Reads bs b t
   laid_reads h = record {
     bytes = text;
-    sealed = same_seal bs b t text ∙ sym (carried (seal (λ k. get_or (padded t) k 0)) (omega arith)
-        (h 508 (omega arith) ∙ block_check t short 0) (h 509 (omega arith) ∙ block_check t short 1)
-        (h 510 (omega arith) ∙ block_check t short 2) (h 511 (omega arith) ∙ block_check t short 3));
+    sealed = same_seal bs b t text ∙ sym (halves_back _ _ (seal (λ k. get_or (padded t) k 0))
+        (two_back _ _ _ (h 508 (omega arith) ∙ block_check t short 0) (h 509 (omega arith) ∙ block_check t short 1))
+        (two_back _ _ _ (h 510 (omega arith) ∙ block_check t short 2) (h 511 (omega arith) ∙ block_check t short 3)));
   }
     where
       text : (i : ℕ) → i < 508 → byte_at bs b i ≡ get_or t i 0
       text i l = h i (omega arith) ∙ block_text t short i l
-
-      carried : (n : ℕ) → n < 131071 → byte_at bs b 508 ≡ n / 65536 / 256 → byte_at bs b 509 ≡ n / 65536 % 256
-          → byte_at bs b 510 ≡ n % 65536 / 256 → byte_at bs b 511 ≡ n % 65536 % 256 → four_at bs b 508 ≡ n
-      carried n l p q r s = let f = four_back n l in omega arith

@@ -1,21 +1,20 @@
 -- The lists that a roster without faults shows are lawful.
-use Rattle.std.proofs.Common.{◌≡◌, ℕ, ◌+◌, ◌*◌, ◌<◌, ◌≤◌, Bool, true, false, ltb, List, [], length, get_or, None, sym, refl, ap, ◌∙◌, subst, ⊎_elim, arith}
+use Rattle.std.proofs.Common.{◌≡◌, ℕ, ◌+◌, ◌*◌, ◌<◌, ◌≤◌, ltb, List, [], length, get_or, None, sym, ap, ◌∙◌, subst, ⊎_elim, arith}
 use Rattle.std.proofs.lemmas.List.FromFn.{get_or-map-range_with_len, length-map-range_with_len}
 use Rattle.std.proofs.lemmas.List.{get_or_past}
-use Rattle.std.proofs.lemmas.Bool.{cases_lt, cases_order, ltb-true, leb-true}
-use Rattle.lists.specs.Rankings.{Rankings, Lawful, place}
+use Rattle.std.proofs.lemmas.Bool.{cases_lt, cases_order}
+use Rattle.lists.specs.Rankings.{Lawful, place}
 use Rattle.lists.specs.Evidence.Places.{get_or_place, place_first}
 use Rattle.lists.specs.declared.faults.Fault.TheVariants.{EntryTooHigh, EntryRepeated, EntryUnreturned}
 use Rattle.lists.specs.declared.parties.Side.TheVariants.{Crew, Site}
-use Rattle.roster.specs.declared.spans.Span.{Span}
 use Rattle.lists.specs.Order.{unless, earliest}
-use Rattle.roster.specs.Layout.{two_at, entries, list_in, lists_in, span_of_crews, span_of_sites, shown}
-use Rattle.roster.specs.FirstFault.{entry_fault, fields_fault, party_fault, span_fault, return_fault, returns_fault}
+use Rattle.lists.specs.declared.parties.Side.{Side}
+use Rattle.lists.specs.Sides.{other}
+use Rattle.roster.specs.Layout.{first_on, count_on, block_of, two_at, entries, list_in, lists_in}
+use Rattle.roster.specs.FirstFault.{entry_fault, fields_fault, party_fault, side_fault, return_fault, returns_fault}
+use Rattle.roster.specs.Held.{both_of}
 use Rattle.lists.proofs.Earliest.{earliest_each, none_first, none_second}
-
-pub unless_none : {X : Type 0} (t : Bool) (x : X) → unless t x ≡ None → t ≡ true
-unless_none true x e = refl
-unless_none false x e = absurd (let z : ◌≡◌ {A = ℕ} 0 1 = cc in omega arith)
+use Rattle.roster.proofs.Tests.{none_most, none_below}
 
 -- lists of one side
 abbrev pub Within : List (List ℕ) → ℕ → Type 0
@@ -33,12 +32,12 @@ party_below ls i k l = ⊎_elim (λ h. h)
     (λ h. absurd (let e = ap length (get_or_past ls i [] h) in omega arith))
     (cases_lt i (length ls))
 
-module _ (bs : List ℕ) (s : Span) where
-  pub span_length : length (lists_in bs s) ≡ s.count
-  span_length = length-map-range_with_len (λ i. list_in bs (s.first + i)) 0 s.count
+module _ (bs : List ℕ) (s : Side) where
+  pub span_length : length (lists_in bs s) ≡ (count_on bs s)
+  span_length = length-map-range_with_len (λ i. list_in bs (block_of bs s i)) 0 (count_on bs s)
 
-  pub span_list : (i : ℕ) → i < s.count → get_or (lists_in bs s) i [] ≡ list_in bs (s.first + i)
-  span_list i l = get_or-map-range_with_len (λ j. list_in bs (s.first + j)) 0 s.count i i [] l (omega arith)
+  pub span_list : (i : ℕ) → i < (count_on bs s) → get_or (lists_in bs s) i [] ≡ list_in bs (block_of bs s i)
+  span_list i l = get_or-map-range_with_len (λ j. list_in bs (block_of bs s j)) 0 (count_on bs s) i i [] l (omega arith)
 
 pub entries_length : (bs : List ℕ) (b n : ℕ) → length (entries bs b n) ≡ n
 entries_length bs b n = length-map-range_with_len (λ j. two_at bs b (6 + 2 * j)) 0 n
@@ -49,11 +48,11 @@ entries_at bs b n k l = get_or-map-range_with_len (λ j. two_at bs b (6 + 2 * j)
 -- an entry without a fault
 module _ (bs : List ℕ) (b n k : ℕ) (e : entry_fault bs b n k ≡ None) where
   pub entry_low : two_at bs b (6 + 2 * k) < n
-  entry_low = ltb-true _ _ (unless_none _ (EntryTooHigh b (6 + 2 * k)) (none_first _ _ e))
+  entry_low = none_below _ _ (EntryTooHigh b (6 + 2 * k)) (none_first _ _ e)
 
   pub entry_new : k ≤ place (entries bs b k) (two_at bs b (6 + 2 * k))
-  entry_new = leb-true _ _ (unless_none _ (EntryRepeated b (6 + 2 * k))
-      (none_second (unless (ltb (two_at bs b (6 + 2 * k)) n) (EntryTooHigh b (6 + 2 * k))) _ e))
+  entry_new = none_most _ _ (EntryRepeated b (6 + 2 * k))
+      (none_second (unless (ltb (two_at bs b (6 + 2 * k)) n) (EntryTooHigh b (6 + 2 * k))) _ e)
 
 -- two equal entries: the later one would be repeated
 pub entries_apart : (bs : List ℕ) (b n k m : ℕ) → entry_fault bs b n m ≡ None → k < m → two_at bs b (6 + 2 * k) ≡ two_at bs b (6 + 2 * m) → ⊥
@@ -63,38 +62,38 @@ entries_apart bs b n k m e l same =
     let first = place_first (entries bs b m) (two_at bs b (6 + 2 * m)) k (omega arith) (entries_at bs b m k l ∙ same) in
     omega arith
 
-module _ (bs : List ℕ) (s : Span) (e : span_fault bs s ≡ None) where
-  pub span_entry : (i k : ℕ) → i < s.count → k < two_at bs (s.first + i) 4 → entry_fault bs (s.first + i) s.others k ≡ None
+module _ (bs : List ℕ) (s : Side) (e : side_fault bs s ≡ None) where
+  pub span_entry : (i k : ℕ) → i < (count_on bs s) → k < two_at bs (block_of bs s i) 4 → entry_fault bs (block_of bs s i) (count_on bs (other s)) k ≡ None
   span_entry i k l h =
-      earliest_each _ _ (none_second (fields_fault bs s i) _ (earliest_each s.count (party_fault bs s) e i l)) k h
+      earliest_each _ _ (none_second (fields_fault bs s i) _ (earliest_each (count_on bs s) (party_fault bs s) e i l)) k h
 
   -- an entry of a list in the span
   span_at : (i k : ℕ) → k < length (get_or (lists_in bs s) i [])
-      → (i < s.count) × (k < two_at bs (s.first + i) 4) × (get_or (get_or (lists_in bs s) i []) k 0 ≡ two_at bs (s.first + i) (6 + 2 * k))
+      → (i < (count_on bs s)) × (k < two_at bs (block_of bs s i) 4) × (get_or (get_or (lists_in bs s) i []) k 0 ≡ two_at bs (block_of bs s i) (6 + 2 * k))
   span_at i k h =
       let n = span_length bs s in
-      let l : i < s.count = let p = party_below (lists_in bs s) i k h in omega arith in
+      let l : i < (count_on bs s) = let p = party_below (lists_in bs s) i k h in omega arith in
       let at = span_list bs s i l in
-      let long = entries_length bs (s.first + i) (two_at bs (s.first + i) 4) in
+      let long = entries_length bs (block_of bs s i) (two_at bs (block_of bs s i) 4) in
       let len = ap length at in
-      let b : k < two_at bs (s.first + i) 4 = omega arith in
-      (l, b, ap (λ (xs : List ℕ). get_or xs k 0) at ∙ entries_at bs (s.first + i) (two_at bs (s.first + i) 4) k b)
+      let b : k < two_at bs (block_of bs s i) 4 = omega arith in
+      (l, b, ap (λ (xs : List ℕ). get_or xs k 0) at ∙ entries_at bs (block_of bs s i) (two_at bs (block_of bs s i) 4) k b)
 
-  pub span_within : Within (lists_in bs s) s.others
+  pub span_within : Within (lists_in bs s) (count_on bs (other s))
   span_within i k h =
       let p = span_at i k h in
-      let low = entry_low bs (s.first + i) s.others k (span_entry i k p.0 p.1) in
+      let low = entry_low bs (block_of bs s i) (count_on bs (other s)) k (span_entry i k p.0 p.1) in
       rw p.2 low
 
   pub span_once : Once (lists_in bs s)
   span_once i k m h j same =
       let p = span_at i k h in
       let q = span_at i m j in
-      let eq : two_at bs (s.first + i) (6 + 2 * k) ≡ two_at bs (s.first + i) (6 + 2 * m) = sym p.2 ∙ same ∙ q.2 in
+      let eq : two_at bs (block_of bs s i) (6 + 2 * k) ≡ two_at bs (block_of bs s i) (6 + 2 * m) = sym p.2 ∙ same ∙ q.2 in
       ⊎_elim (λ z. z)
       (λ o. absurd (⊎_elim
-      (λ l. entries_apart bs (s.first + i) s.others k m (span_entry i m q.0 q.1) l eq)
-      (λ l. entries_apart bs (s.first + i) s.others m k (span_entry i k p.0 p.1) l (sym eq))
+      (λ l. entries_apart bs (block_of bs s i) (count_on bs (other s)) k m (span_entry i m q.0 q.1) l eq)
+      (λ l. entries_apart bs (block_of bs s i) (count_on bs (other s)) m k (span_entry i k p.0 p.1) l (sym eq))
       o))
       (cases_order k m)
 
@@ -106,26 +105,18 @@ returned_none own back first e i j h =
     let f = earliest_each (length own) (λ (p : ℕ). earliest (length (get_or own p [])) (return_fault back (first + p) p (get_or own p []))) e i (party_below own i k h) in
     let g = earliest_each (length xs) (return_fault back (first + i) i xs) f k h in
     subst (λ (v : ℕ). place (get_or back v []) i < length (get_or back v [])) (get_or_place xs j h)
-    (ltb-true _ _ (unless_none _ (EntryUnreturned (first + i) (6 + 2 * k)) g))
+    (none_below _ _ (EntryUnreturned (first + i) (6 + 2 * k)) g)
 
--- lawful, side by side
-pub lawful_halves : (L : Rankings) → length L.crews ≤ 500 → length L.sites ≤ 500
-    → Within L.crews (length L.sites) → Within L.sites (length L.crews) → Once L.crews → Once L.sites
-    → Returned L.crews L.sites → Returned L.sites L.crews → Lawful L
-lawful_halves L nc ns wc ws oc os rc rs = record {
-  few = elim [ Crew ↦ nc | Site ↦ ns ];
-  within = elim [ Crew ↦ wc | Site ↦ ws ];
-  once = elim [ Crew ↦ oc | Site ↦ os ];
-  returned = elim [ Crew ↦ rc | Site ↦ rs ];
-}
-
-pub lawful_shown : (bs : List ℕ) → two_at bs 0 4 ≤ 250 → two_at bs 0 6 ≤ 250 → span_fault bs (span_of_crews bs) ≡ None → span_fault bs (span_of_sites bs) ≡ None
-    → returns_fault (shown bs).crews (shown bs).sites (span_of_crews bs).first ≡ None
-    → returns_fault (shown bs).sites (shown bs).crews (span_of_sites bs).first ≡ None → Lawful (shown bs)
-lawful_shown bs nc ns fc fs rc rs =
-    let lc = span_length bs (span_of_crews bs) in
-    let ls = span_length bs (span_of_sites bs) in
-    lawful_halves (shown bs) (omega arith) (omega arith)
-    (rw ls (span_within bs (span_of_crews bs) fc)) (rw lc (span_within bs (span_of_sites bs) fs))
-    (span_once bs (span_of_crews bs) fc) (span_once bs (span_of_sites bs) fs)
-    (returned_none _ _ _ rc) (returned_none _ _ _ rs)
+-- the lists that were read, where nothing was found on the way
+pub lawful_read : (bs : List ℕ) (c s : List (List ℕ)) → c ≡ lists_in bs Crew → s ≡ lists_in bs Site → count_on bs Crew ≤ 250 → count_on bs Site ≤ 250
+    → side_fault bs Crew ≡ None → side_fault bs Site ≡ None
+    → returns_fault c s (first_on bs Crew) ≡ None → returns_fault s c (first_on bs Site) ≡ None → Lawful (both_of c s)
+lawful_read bs c s ec es nc ns fc fs rc rs =
+    let lc : length c ≡ count_on bs Crew = rw ec (span_length bs Crew) in
+    let ls : length s ≡ count_on bs Site = rw es (span_length bs Site) in
+    record {
+      few = elim [ Crew ↦ omega arith | Site ↦ omega arith ];
+      within = elim [ Crew ↦ rw (ls, ec) (span_within bs Crew fc) | Site ↦ rw (lc, es) (span_within bs Site fs) ];
+      once = elim [ Crew ↦ rw ec (span_once bs Crew fc) | Site ↦ rw es (span_once bs Site fs) ];
+      returned = elim [ Crew ↦ returned_none c s (first_on bs Crew) rc | Site ↦ returned_none s c (first_on bs Site) rs ];
+    }

@@ -1,5 +1,5 @@
 -- What stands where in the text of a party's block.
-use Rattle.std.proofs.Common.{◌≡◌, ℕ, zero, suc, ◌+◌, ◌-◌, ◌*◌, ◌/◌, ◌%◌, ◌<◌, List, [], ◌∷◌, length, get_or, sym, refl, ap, ◌∙◌, subst, ⊎_elim, arith}
+use Rattle.std.proofs.Common.{◌≡◌, ℕ, zero, suc, ◌+◌, ◌-◌, ◌*◌, ◌/◌, ◌%◌, ◌<◌, ◌≤◌, List, [], ◌∷◌, length, get_or, sym, refl, ap, ◌∙◌, subst, ⊎_elim, arith}
 use Rattle.std.specs.List.{flat_map}
 use Rattle.std.proofs.lemmas.List.{get_or-drop}
 use Rattle.std.proofs.lemmas.Bool.{cases_eq}
@@ -36,17 +36,9 @@ module _ (kind i : ℕ) (xs : List ℕ) where
       ap (λ (m : ℕ). get_or (party_text kind i xs) m 0) e
       ∙ sym (get_or-drop 6 (party_text kind i xs) (2 * k + 1) 0) ∙ joined_low xs k
 
--- the bytes of a block, one by one: six and then the entries
-pub byte_by_byte : (P : ℕ → Type 0) → P 0 → P 1 → P 2 → P 3 → P 4 → P 5
-    → ((k : ℕ) → k < 251 → P (6 + 2 * k)) → ((k : ℕ) → k < 251 → P (6 + 2 * k + 1)) → (i : ℕ) → i < 508 → P i
-byte_by_byte P p0 p1 p2 p3 p4 p5 even odd i l = ⊎_elim
-    (λ e. subst P (sym e) p0) (λ n0. ⊎_elim
-    (λ e. subst P (sym e) p1) (λ n1. ⊎_elim
-    (λ e. subst P (sym e) p2) (λ n2. ⊎_elim
-    (λ e. subst P (sym e) p3) (λ n3. ⊎_elim
-    (λ e. subst P (sym e) p4) (λ n4. ⊎_elim
-    (λ e. subst P (sym e) p5) (λ n5. ⊎_elim
-    (λ z. let e : 6 + 2 * ((i - 6) / 2) ≡ i = omega arith in subst P e (even ((i - 6) / 2) (omega arith)))
-    (λ z. let e : 6 + 2 * ((i - 6) / 2) + 1 ≡ i = omega arith in subst P e (odd ((i - 6) / 2) (omega arith)))
-    (cases_eq ((i - 6) % 2) 0))
-    (cases_eq i 5)) (cases_eq i 4)) (cases_eq i 3)) (cases_eq i 2)) (cases_eq i 1)) (cases_eq i 0)
+-- two bytes at a time, from byte 6 on
+pub entry_bytes : (P : ℕ → Type 0) → ((k : ℕ) → k < 251 → P (6 + 2 * k)) → ((k : ℕ) → k < 251 → P (6 + 2 * k + 1)) → (i : ℕ) → 6 ≤ i → i < 508 → P i
+entry_bytes P high low i l h = ⊎_elim
+    (λ z. let e : 6 + 2 * ((i - 6) / 2) ≡ i = omega arith in subst P e (high ((i - 6) / 2) (omega arith)))
+    (λ z. let e : 6 + 2 * ((i - 6) / 2) + 1 ≡ i = omega arith in subst P e (low ((i - 6) / 2) (omega arith)))
+    (cases_eq ((i - 6) % 2) 0)

@@ -3,8 +3,10 @@ use Rattle.std.specs.Prelude.{ℕ, ◌+◌, ◌-◌, ◌*◌, ◌%◌, ◌&&◌,
 use Rattle.lists.specs.Rankings.{place}
 use Rattle.lists.specs.declared.faults.Fault.{Fault}
 use Rattle.lists.specs.declared.faults.Fault.TheVariants.{RosterLength, BlockCheck, BlockField, EntryTooHigh, EntryRepeated, EntryUnreturned}
-use Rattle.roster.specs.declared.spans.Span.{Span}
-use Rattle.roster.specs.Layout.{byte_at, two_at, four_at, seal, entries, span_of_crews, span_of_sites, shown}
+use Rattle.lists.specs.declared.parties.Side.{Side}
+use Rattle.lists.specs.declared.parties.Side.TheVariants.{Crew, Site}
+use Rattle.lists.specs.Sides.{other}
+use Rattle.roster.specs.Layout.{byte_at, two_at, four_at, seal, entries, kind_of, count_on, first_on, block_of, shown}
 use Rattle.lists.specs.Order.{or_else, unless, earliest}
 
 -- a length of 0, one that is no whole number of blocks, and one above 501 blocks
@@ -27,35 +29,33 @@ number_fault bs b i v = unless (two_at bs b i == v) (BlockField b i)
 abbrev pub bound_fault : List ℕ → ℕ → ℕ → ℕ → Option Fault
 bound_fault bs b i n = unless (nat_le (two_at bs b i) n) (BlockField b i)
 
--- a byte that is not zero, from one byte on up to the check
-abbrev pub zero_fault : List ℕ → ℕ → ℕ → Option Fault
-zero_fault bs b from = earliest (508 - from) (λ k. byte_fault bs b (from + k) 0)
+-- a byte that is not zero, from one byte on up to another
+abbrev pub zero_fault : List ℕ → ℕ → ℕ → ℕ → Option Fault
+zero_fault bs b from to = earliest (to - from) (λ k. byte_fault bs b (from + k) 0)
 
 -- the fields of block 0, byte by byte
 abbrev pub head_fault : List ℕ → Option Fault
 head_fault bs =
     or_else (check_fault bs 0)
     (or_else (byte_fault bs 0 0 1)
-    (or_else (byte_fault bs 0 1 0)
-    (or_else (byte_fault bs 0 2 0)
-    (or_else (byte_fault bs 0 3 0)
+    (or_else (zero_fault bs 0 1 4)
     (or_else (bound_fault bs 0 4 250)
     (or_else (bound_fault bs 0 6 250)
-    (zero_fault bs 0 8)))))))
+    (zero_fault bs 0 8 508)))))
 
 -- a number of blocks that does not fit the counts
 abbrev pub blocks_fault : List ℕ → Option Fault
 blocks_fault bs = unless (length bs == 512 * (1 + two_at bs 0 4 + two_at bs 0 6)) RosterLength
 
 -- the fields of a party's block, byte by byte
-abbrev pub fields_fault : List ℕ → Span → ℕ → Option Fault
+abbrev pub fields_fault : List ℕ → Side → ℕ → Option Fault
 fields_fault bs s i =
-    or_else (check_fault bs (s.first + i))
-    (or_else (byte_fault bs (s.first + i) 0 s.kind)
-    (or_else (byte_fault bs (s.first + i) 1 0)
-    (or_else (number_fault bs (s.first + i) 2 i)
-    (or_else (bound_fault bs (s.first + i) 4 s.others)
-    (zero_fault bs (s.first + i) (6 + 2 * two_at bs (s.first + i) 4))))))
+    or_else (check_fault bs (block_of bs s i))
+    (or_else (byte_fault bs (block_of bs s i) 0 (kind_of s))
+    (or_else (byte_fault bs (block_of bs s i) 1 0)
+    (or_else (number_fault bs (block_of bs s i) 2 i)
+    (or_else (bound_fault bs (block_of bs s i) 4 (count_on bs (other s)))
+    (zero_fault bs (block_of bs s i) (6 + 2 * two_at bs (block_of bs s i) 4) 508)))))
 
 -- an entry that names nobody, or somebody whom an earlier entry of its list names
 abbrev pub entry_fault : List ℕ → ℕ → ℕ → ℕ → Option Fault
@@ -64,14 +64,14 @@ entry_fault bs b n k =
     (unless (nat_le k (place (entries bs b k) (two_at bs b (6 + 2 * k)))) (EntryRepeated b (6 + 2 * k)))
 
 -- a party's block: its fields, and then its entries in turn
-abbrev pub party_fault : List ℕ → Span → ℕ → Option Fault
+abbrev pub party_fault : List ℕ → Side → ℕ → Option Fault
 party_fault bs s i =
     or_else (fields_fault bs s i)
-    (earliest (two_at bs (s.first + i) 4) (entry_fault bs (s.first + i) s.others))
+    (earliest (two_at bs (block_of bs s i) 4) (entry_fault bs (block_of bs s i) (count_on bs (other s))))
 
--- the blocks of a span in order
-abbrev pub span_fault : List ℕ → Span → Option Fault
-span_fault bs s = earliest s.count (party_fault bs s)
+-- the blocks of a side in order
+abbrev pub side_fault : List ℕ → Side → Option Fault
+side_fault bs s = earliest (count_on bs s) (party_fault bs s)
 
 -- an entry of party i's list xs whose party does not name i back
 abbrev pub return_fault : List (List ℕ) → ℕ → ℕ → List ℕ → ℕ → Option Fault
@@ -91,7 +91,7 @@ first_fault bs =
     or_else (length_fault bs)
     (or_else (head_fault bs)
     (or_else (blocks_fault bs)
-    (or_else (span_fault bs (span_of_crews bs))
-    (or_else (span_fault bs (span_of_sites bs))
-    (or_else (returns_fault (shown bs).crews (shown bs).sites (span_of_crews bs).first)
-    (returns_fault (shown bs).sites (shown bs).crews (span_of_sites bs).first))))))
+    (or_else (side_fault bs Crew)
+    (or_else (side_fault bs Site)
+    (or_else (returns_fault (shown bs).crews (shown bs).sites (first_on bs Crew))
+    (returns_fault (shown bs).sites (shown bs).crews (first_on bs Site)))))))

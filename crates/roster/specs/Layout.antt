@@ -2,7 +2,8 @@
 use Rattle.std.specs.Prelude.{ℕ, zero, suc, ◌+◌, ◌*◌, ◌%◌, List, map, slice_index}
 use Rattle.std.specs.List.{range_with_len}
 use Rattle.lists.specs.Rankings.{Rankings}
-use Rattle.roster.specs.declared.spans.Span.{Span}
+use Rattle.lists.specs.declared.parties.Side.{Side}
+use Rattle.lists.specs.declared.parties.Side.TheVariants.{Crew, Site}
 
 -- a byte of a block of 512
 abbrev pub byte_at : List ℕ → ℕ → ℕ → ℕ
@@ -33,17 +34,29 @@ entries bs b n = map (λ k. two_at bs b (6 + 2 * k)) (range_with_len 0 n)
 abbrev pub list_in : List ℕ → ℕ → List ℕ
 list_in bs b = entries bs b (two_at bs b 4)
 
--- the blocks of the crews, and after them those of the sites
-abbrev pub span_of_crews : List ℕ → Span
-span_of_crews bs = record { kind = 2; first = 1; count = two_at bs 0 4; others = two_at bs 0 6 }
+-- byte 0 of each block of a side
+abbrev pub kind_of : Side → ℕ
+kind_of Crew = 2
+kind_of Site = 3
 
-abbrev pub span_of_sites : List ℕ → Span
-span_of_sites bs = record { kind = 3; first = 1 + two_at bs 0 4; count = two_at bs 0 6; others = two_at bs 0 4 }
+-- how many parties a side has, as block 0 tells
+abbrev pub count_on : List ℕ → Side → ℕ
+count_on bs Crew = two_at bs 0 4
+count_on bs Site = two_at bs 0 6
 
--- the lists in a span of blocks
-abbrev pub lists_in : List ℕ → Span → List (List ℕ)
-lists_in bs s = map (λ i. list_in bs (s.first + i)) (range_with_len 0 s.count)
+-- the block of a side's party 0: the crews come first, and after them the sites
+abbrev pub first_on : List ℕ → Side → ℕ
+first_on bs Crew = 1
+first_on bs Site = 1 + count_on bs Crew
+
+-- the block of a party
+abbrev pub block_of : List ℕ → Side → ℕ → ℕ
+block_of bs s i = first_on bs s + i
+
+-- the lists in the blocks of a side
+abbrev pub lists_in : List ℕ → Side → List (List ℕ)
+lists_in bs s = map (λ i. list_in bs (block_of bs s i)) (range_with_len 0 (count_on bs s))
 
 -- the lists that a roster shows
 abbrev pub shown : List ℕ → Rankings
-shown bs = record { crews = lists_in bs (span_of_crews bs); sites = lists_in bs (span_of_sites bs) }
+shown bs = record { crews = lists_in bs Crew; sites = lists_in bs Site }

@@ -1,4 +1,3 @@
-pub mod Evidence
 pub mod FirstFault
 pub mod Held
 pub mod LaidDown

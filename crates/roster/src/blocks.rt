@@ -1,110 +1,128 @@
-// Blocks of 512 bytes: their numbers, their check and their fields.
-ghost use Rattle.std.specs.Prelude.{◌≡◌, ◌+◌, ◌*◌, ◌<◌, ◌≤◌, length, IfOk};
+// Blocks of 512 bytes: their fields and their check.
+ghost use Rattle.std.specs.Prelude.{◌≡◌, ℕ, ◌+◌, ◌*◌, ◌<◌, ◌≤◌, not, ◌==◌, length, slice_index, position, IfOk};
 ghost use Rattle.std.specs.Result.{result_err};
-ghost use Rattle.roster.specs.Layout.{byte_at, two_at, four_at, weighted};
-ghost use Rattle.roster.specs.FirstFault.{check_fault, byte_fault, number_fault, bound_fault, zero_fault};
+ghost use Rattle.lists.specs.Order.{unless};
+ghost use Rattle.roster.specs.Layout.{byte_at, two_at, weighted};
+ghost use Rattle.roster.specs.FirstFault.{check_fault, bound_fault, zero_fault};
 
+use crate::fields::Field;
 use lists::faults::Fault;
+use std::ops::Range;
 
 // How many bytes a block has.
 pub(crate) const BLOCK: usize = 512;
 
-// How many of them its check covers.
-const CHECKED: u16 = 508;
+// How many of them its check covers, and so where it begins.
+pub(crate) const CHECKED: u16 = 508;
 
-// A byte of a block.
-fn byte(bytes: &[u8], block: u16, at: u16) -> u8
-    requires { 512 * block + at < length bytes.now }
-    ensures { result ≡ byte_at bytes.now block at }
-{
-    bytes[BLOCK * block as usize + at as usize]
+// A block of a roster.
+#[derive(Clone, Copy)]
+pub(crate) struct Block<'a> {
+    pub roster: &'a [u8],
+    pub number: u16,
+    ghost whole: { 512 * number + 512 ≤ length roster.now },
 }
 
-// The two-byte number that begins at a byte of a block.
-pub(crate) fn number(bytes: &[u8], block: u16, at: u16) -> u16
-    requires { (512 * block + at + 1 < length bytes.now) × (at < 511) }
-    ensures { result ≡ two_at bytes.now block at }
+// Where the first byte stands that is not zero.
+fn first_nonzero(bytes: &[u8]) -> Option<usize>
+    ensures { result ≡ position (λ byte. not (byte == 0)) bytes.now }
 {
-    256 * byte(bytes, block, at) as u16 + byte(bytes, block, at + 1) as u16
+    bytes.iter().position(|byte| *byte != 0)
 }
 
-// The check that a block carries.
-fn carried(bytes: &[u8], block: u16) -> u32
-    requires { 512 * block + 512 ≤ length bytes.now }
-    ensures { result ≡ four_at bytes.now block 508 }
-{
-    65536 * number(bytes, block, CHECKED) as u32 + number(bytes, block, CHECKED + 2) as u32
-}
-
-// The bytes of a block, each times its place counted from 1.
-fn weight(bytes: &[u8], block: u16) -> u32
-    requires { 512 * block + 512 ≤ length bytes.now }
-    ensures { result ≡ weighted (byte_at bytes.now block) 508 }
-{
-    let mut sum = 0;
-    for at in 0..CHECKED {
-        sum += (at as u32 + 1) * byte(bytes, block, at) as u32;
+impl Block<'_> {
+    // Where the block begins in the roster.
+    fn start(&self) -> usize
+        ensures { result ≡ 512 * self.now.number }
+    {
+        BLOCK * usize::from(self.number)
     }
-    sum
-}
 
-// The check of a block fits its bytes.
-pub(crate) fn check_block(bytes: &[u8], block: u16) -> Result<(), Fault>
-    requires { 512 * block + 512 ≤ length bytes.now }
-    ensures { result_err result ≡ check_fault bytes.now block }
-{
-    if weight(bytes, block) % 131071 == carried(bytes, block) {
-        Ok(())
-    } else {
-        Err(Fault::BlockCheck { block })
+    // Some of its bytes.
+    fn bytes(&self, part: Range<u16>) -> &[u8]
+        requires { (part.start ≤ part.end) × (part.end ≤ 512) }
+        ensures len { part.start + length result.now ≡ part.end }
+        ensures same { (k : ℕ) → k < length result.now → slice_index result.now k ≡ byte_at self.now.roster.now self.now.number (part.start + k) }
+    {
+        let start = self.start();
+        &self.roster[start + usize::from(part.start)..start + usize::from(part.end)]
     }
-}
 
-// A byte has the value that belongs there.
-pub(crate) fn check_byte(bytes: &[u8], block: u16, at: u16, value: u8) -> Result<(), Fault>
-    requires { 512 * block + at < length bytes.now }
-    ensures { result_err result ≡ byte_fault bytes.now block at value }
-{
-    if byte(bytes, block, at) == value {
-        Ok(())
-    } else {
-        Err(Fault::BlockField { block, byte: at })
+    // One byte.
+    pub(crate) fn byte(&self, at: u16) -> u8
+        requires { at < 512 }
+        ensures { result ≡ byte_at self.now.roster.now self.now.number at }
+    {
+        self.roster[self.start() + usize::from(at)]
     }
-}
 
-// A two-byte field has the value that belongs there.
-pub(crate) fn check_number(bytes: &[u8], block: u16, at: u16, value: u16) -> Result<(), Fault>
-    requires { (512 * block + at + 1 < length bytes.now) × (at < 511) }
-    ensures { result_err result ≡ number_fault bytes.now block at value }
-{
-    if number(bytes, block, at) == value {
-        Ok(())
-    } else {
-        Err(Fault::BlockField { block, byte: at })
+    // What is wrong at a byte that begins a field.
+    fn wrong_field(&self, byte: u16) -> Fault
+        ensures { result ≡ Fault.BlockField self.now.number byte }
+    {
+        Fault::BlockField {
+            block: self.number,
+            byte,
+        }
     }
-}
 
-// The value of a two-byte field that has a bound.
-pub(crate) fn bounded(bytes: &[u8], block: u16, at: u16, most: u16) -> Result<u16, Fault>
-    requires { (512 * block + at + 1 < length bytes.now) × (at < 511) }
-    ensures fault { result_err result ≡ bound_fault bytes.now block at most }
-    ensures value { IfOk result (λ n. (n ≡ two_at bytes.now block at) × (n ≤ most)) }
-{
-    let value = number(bytes, block, at);
-    if value <= most {
-        Ok(value)
-    } else {
-        Err(Fault::BlockField { block, byte: at })
+    // The bytes that the check covers, each times its place counted from 1.
+    fn weight(&self) -> u32
+        ensures { result ≡ weighted (byte_at self.now.roster.now self.now.number) 508 }
+    {
+        let mut sum = 0;
+        for (at, byte) in self.bytes(0..CHECKED).iter().enumerate() {
+            sum += (at as u32 + 1) * u32::from(*byte);
+        }
+        sum
     }
-}
 
-// Every byte from one on up to the check is zero.
-pub(crate) fn check_zeros(bytes: &[u8], block: u16, from: u16) -> Result<(), Fault>
-    requires { (512 * block + 512 ≤ length bytes.now) × (from ≤ 508) }
-    ensures { result_err result ≡ zero_fault bytes.now block from }
-{
-    for at in from..CHECKED {
-        check_byte(bytes, block, at, 0)?;
+    // The check that the block carries fits its bytes.
+    pub(crate) fn check_seal(&self) -> Result<(), Fault>
+        ensures { result_err result ≡ check_fault self.now.roster.now self.now.number }
+    {
+        if self.weight() % 131071 == u32::from_block(self, CHECKED) {
+            Ok(())
+        } else {
+            Err(Fault::BlockCheck { block: self.number })
+        }
     }
-    Ok(())
+
+    // A field has the value that belongs there.
+    pub(crate) fn check<T: Field>(&self, at: u16, value: T) -> Result<(), Fault>
+        requires { at + T.width ≤ 512 }
+        ensures { result_err result ≡ unless (T.eq (T.value_at self.now.roster.now self.now.number at) value) (Fault.BlockField self.now.number at) }
+    {
+        if T::from_block(self, at) == value {
+            Ok(())
+        } else {
+            Err(self.wrong_field(at))
+        }
+    }
+
+    // The value of a two-byte field that has a bound.
+    pub(crate) fn bounded(&self, at: u16, most: u16) -> Result<u16, Fault>
+        requires { at + 2 ≤ 512 }
+        ensures fault { result_err result ≡ bound_fault self.now.roster.now self.now.number at most }
+        ensures value { IfOk result (λ n. (n ≡ two_at self.now.roster.now self.now.number at) × (n ≤ most)) }
+    {
+        let value = u16::from_block(self, at);
+        if value <= most {
+            Ok(value)
+        } else {
+            Err(self.wrong_field(at))
+        }
+    }
+
+    // A part of the block is zero throughout.
+    pub(crate) fn check_zeros(&self, part: Range<u16>) -> Result<(), Fault>
+        requires { (part.start ≤ part.end) × (part.end ≤ 512) }
+        ensures { result_err result ≡ zero_fault self.now.roster.now self.now.number part.start part.end }
+    {
+        let from = part.start;
+        match first_nonzero(self.bytes(part)) {
+            None => Ok(()),
+            Some(k) => Err(self.wrong_field(from + k as u16)),
+        }
+    }
 }

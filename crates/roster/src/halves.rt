@@ -1,67 +1,77 @@
 // The lists of one side.
-ghost use Rattle.std.specs.Prelude.{◌≡◌, [], length, slice_index_or};
+ghost use Rattle.std.specs.Prelude.{◌≡◌, ◌<◌, ◌≤◌, [], ◌∷◌, ◌++◌, length, slice_index_or};
 ghost use Rattle.lists.specs.Rankings.{entry_at, place_of};
-ghost use Rattle.roster.specs.Held.{lists_of, Filled};
 
 use crate::rows::{LIMIT, Row};
+use arrayvec::ArrayVec;
+use std::marker::Model;
 
 #[derive(Drop)]
 pub(crate) struct Half {
-    pub count: u16,
-    pub rows: [Row; LIMIT],
+    rows: ArrayVec<Row, LIMIT>,
+}
+
+impl Model for Half {
+    ghost use Rattle.std.specs.Prelude.{ℕ, List};
+
+    ghost Value = { List (List ℕ) };
+
+    ghost view = { λ h. h.rows.items };
+}
+
+impl Default for Half {
+    ghost is_default = { λ h. h ≡ [] };
+
+    // A side without parties.
+    fn default() -> Half {
+        Half {
+            rows: ArrayVec::new(),
+        }
+    }
 }
 
 impl Half {
-    // A side whose parties name nobody yet.
-    pub(crate) fn of(count: u16) -> Half
-        ensures { (result.count ≡ count) × (length result.rows ≡ 250) }
+    // The lists in the order of their parties.
+    pub(crate) fn rows(&self) -> &[Row]
+        ensures rows { result.now ≡ self.now }
+        ensures few { length self.now ≤ 250 }
     {
-        Half {
-            count,
-            rows: [Row::empty(); LIMIT],
-        }
+        self.rows.as_slice()
     }
 
     // How many parties the side has.
     pub(crate) fn count(&self) -> u16
-        ensures { result ≡ length (lists_of self.now) }
+        ensures { result ≡ length self.now }
     {
-        self.count
+        self.rows.len() as u16
     }
 
     // How many parties a party names.
     pub(crate) fn length(&self, party: u16) -> u16
-        requires { Filled self.now }
-        ensures { result ≡ length (slice_index_or (lists_of self.now) party []) }
+        ensures { result ≡ length (slice_index_or self.now party []) }
     {
-        if party < self.count {
-            self.rows[party as usize].length
-        } else {
-            0
-        }
+        self.rows().get(usize::from(party)).map_or(0, Row::len)
     }
 
     // Whom a party names at a place.
     pub(crate) fn entry(&self, party: u16, place: u16) -> Option<u16>
-        requires { Filled self.now }
-        ensures { result ≡ entry_at (slice_index_or (lists_of self.now) party []) place }
+        ensures { result ≡ entry_at (slice_index_or self.now party []) place }
     {
-        if place < self.length(party) {
-            Some(self.rows[party as usize].entries[place as usize])
-        } else {
-            None
-        }
+        self.rows().get(usize::from(party))?.entry(place)
     }
 
     // At which place a party names another.
     pub(crate) fn place(&self, party: u16, named: u16) -> Option<u16>
-        requires { Filled self.now }
-        ensures { result ≡ place_of (slice_index_or (lists_of self.now) party []) named }
+        ensures { result ≡ place_of (slice_index_or self.now party []) named }
     {
-        if party < self.count && (named as usize) < LIMIT {
-            self.rows[party as usize].places[named as usize]
-        } else {
-            None
-        }
+        self.rows().get(usize::from(party))?.place(named)
+    }
+
+    // The list of one more party.
+    pub(crate) fn push(&mut self, row: Row)
+        requires { length self.old < 250 }
+        ensures { self.new ≡ self.old ++ row ∷ [] }
+    {
+        self.rows.push(row);
     }
 }

@@ -2,6 +2,7 @@
 #![tactic(auto)]
 
 mod blocks;
+mod fields;
 mod halves;
 mod heads;
 pub mod reader;

@@ -5,11 +5,11 @@ ghost use Rattle.roster.specs.FirstFault.{first_fault};
 ghost use Rattle.roster.specs.Held.{both_of};
 ghost use Rattle.roster.specs.LaidDown.{RostersAreListsLaidDown};
 
-use crate::heads::{check_blocks, check_length, read_head};
-use crate::reading::read_half;
+use crate::heads::{Head, check_length};
 use crate::returns::check_returns;
 use crate::rosters::Roster;
 use lists::faults::Fault;
+use lists::parties::Side;
 
 // The first fault of a roster, or its lists.
 pub fn read(bytes: &[u8]) -> Result<Roster, Fault>
@@ -19,14 +19,14 @@ pub fn read(bytes: &[u8]) -> Result<Roster, Fault>
     ensures law { RostersAreListsLaidDown }
 {
     check_length(bytes)?;
-    let counts = read_head(bytes)?;
-    check_blocks(bytes, counts)?;
-    let crew_span = counts.crew_span();
-    let site_span = counts.site_span();
-    let crews = read_half(bytes, crew_span)?;
-    let sites = read_half(bytes, site_span)?;
-    check_returns(&crews, &sites, crew_span.first)?;
-    check_returns(&sites, &crews, site_span.first)?;
+    let head = Head::read(bytes)?;
+    head.check_blocks()?;
+    let crew_blocks = head.span(Side::Crew);
+    let site_blocks = head.span(Side::Site);
+    let crews = crew_blocks.read()?;
+    let sites = site_blocks.read()?;
+    check_returns(&crews, &sites, crew_blocks.first)?;
+    check_returns(&sites, &crews, site_blocks.first)?;
     Ok(Roster { crews, sites })
 }
 

@@ -1,70 +1,58 @@
-// The lists in the blocks of the parties: their entries, their rows, their sides.
-ghost use Rattle.std.specs.Prelude.{◌≡◌, ◌+◌, ◌*◌, ◌<◌, ◌≤◌, length, IfOk};
+// The entries of one party's block.
+ghost use Rattle.std.specs.Prelude.{◌≡◌, ◌+◌, ◌*◌, ◌<◌, ◌≤◌, length, IfOk, OnOk};
 ghost use Rattle.std.specs.Result.{result_err};
-ghost use Rattle.lists.specs.Rankings.{place as place_in};
 ghost use Rattle.lists.specs.Order.{earliest};
-ghost use Rattle.roster.specs.Layout.{two_at, entries as entries_in, list_in, lists_in};
-ghost use Rattle.roster.specs.FirstFault.{entry_fault, party_fault, span_fault};
-ghost use Rattle.roster.specs.Held.{list_of, lists_of, Placed, Filled};
+ghost use Rattle.roster.specs.Layout.{entries as entries_in};
+ghost use Rattle.roster.specs.FirstFault.{entry_fault};
 
-use crate::blocks::number;
-use crate::halves::Half;
+use crate::blocks::Block;
+use crate::fields::Field;
 use crate::rows::Row;
-use crate::spans::{Span, read_fields};
 use lists::faults::Fault;
 
-// One entry, after those that the row holds.
-fn read_entry(bytes: &[u8], block: u16, others: u16, k: u16, row: &Row) -> Result<u16, Fault>
-    requires within { (512 * block + 512 ≤ length bytes.now) × ((others ≤ 250) × (k < 250)) }
-    requires before { (Placed row.now) × ((row.now.length ≡ k) × (list_of row.now ≡ entries_in bytes.now block k)) }
-    ensures fault { result_err result ≡ entry_fault bytes.now block others k }
-    ensures value { IfOk result (λ v. (v ≡ two_at bytes.now block (6 + 2 * k)) × (v < 250) × (k ≤ place_in (list_of row.now) v)) }
+// The byte at which an entry begins.
+pub(crate) fn entry_byte(k: u16) -> u16
+    requires { k ≤ 250 }
+    ensures { result ≡ 6 + 2 * k }
 {
-    let at = 6 + 2 * k;
-    let named = number(bytes, block, at);
-    if named >= others {
-        return Err(Fault::EntryTooHigh { block, byte: at });
-    }
-    if row.names(named) {
-        return Err(Fault::EntryRepeated { block, byte: at });
-    }
-    Ok(named)
+    6 + 2 * k
 }
 
-// The entries of a block in turn.
-fn read_entries(bytes: &[u8], block: u16, others: u16, len: u16) -> Result<Row, Fault>
-    requires { (512 * block + 512 ≤ length bytes.now) × ((others ≤ 250) × (len ≤ 250)) }
-    ensures fault { result_err result ≡ earliest len (entry_fault bytes.now block others) }
-    ensures value { IfOk result (λ row. Placed row × (list_of row ≡ entries_in bytes.now block len)) }
+// The next entry, behind those that the row holds.
+fn read_entry(block: &Block<'_>, others: u16, row: &mut Row) -> Result<(), Fault>
+    requires few { others ≤ 250 }
+    requires room { length row.old < 250 }
+    requires before { row.old ≡ entries_in block.now.roster.now block.now.number (length row.old) }
+    ensures fault { result_err result ≡ entry_fault block.now.roster.now block.now.number others (length row.old) }
+    ensures more { OnOk result (row.new ≡ entries_in block.now.roster.now block.now.number (length row.old + 1)) }
 {
-    let mut row = Row::empty();
-    for k in 0..len {
-        let named = read_entry(bytes, block, others, k, &row)?;
-        row.push(named);
+    let byte = entry_byte(row.len());
+    let named = u16::from_block(block, byte);
+    if named >= others {
+        return Err(Fault::EntryTooHigh {
+            block: block.number,
+            byte,
+        });
+    }
+    if row.place(named).is_some() {
+        return Err(Fault::EntryRepeated {
+            block: block.number,
+            byte,
+        });
+    }
+    row.push(named);
+    Ok(())
+}
+
+// The entries in turn.
+pub(crate) fn read_entries(block: &Block<'_>, others: u16, len: u16) -> Result<Row, Fault>
+    requires { (others ≤ 250) × (len ≤ 250) }
+    ensures fault { result_err result ≡ earliest len (entry_fault block.now.roster.now block.now.number others) }
+    ensures value { IfOk result (λ row. row ≡ entries_in block.now.roster.now block.now.number len) }
+{
+    let mut row = Row::default();
+    for _ in 0..len {
+        read_entry(block, others, &mut row)?;
     }
     Ok(row)
-}
-
-// One party's block.
-fn read_party(bytes: &[u8], span: Span, party: u16) -> Result<Row, Fault>
-    requires { (512 * (span.first + party) + 512 ≤ length bytes.now) × ((span.first + party ≤ 500) × (span.others ≤ 250)) }
-    ensures fault { result_err result ≡ party_fault bytes.now span party }
-    ensures value { IfOk result (λ row. Placed row × (list_of row ≡ list_in bytes.now (span.first + party))) }
-{
-    let len = read_fields(bytes, span, party)?;
-    read_entries(bytes, span.first + party, span.others, len)
-}
-
-// The blocks of one side in order.
-pub(crate) fn read_half(bytes: &[u8], span: Span) -> Result<Half, Fault>
-    requires { (512 * (span.first + span.count) ≤ length bytes.now) × ((span.first + span.count ≤ 501) × ((span.count ≤ 250) × (span.others ≤ 250))) }
-    ensures fault { result_err result ≡ span_fault bytes.now span }
-    ensures value { IfOk result (λ h. Filled h × (lists_of h ≡ lists_in bytes.now span)) }
-{
-    let mut half = Half::of(span.count);
-    for party in 0..span.count {
-        let row = read_party(bytes, span, party)?;
-        half.rows[party as usize] = row;
-    }
-    Ok(half)
 }

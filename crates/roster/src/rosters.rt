@@ -1,8 +1,7 @@
 // A roster that was read, and its answers as lists.
 ghost use Rattle.std.specs.Prelude.{◌≡◌};
-ghost use Rattle.lists.specs.Rankings.{half as lists_on};
-ghost use Rattle.roster.specs.Held.{lists_of, both_of, Filled, Kept};
-ghost use Rattle.roster.specs.Evidence.{both_lawful};
+ghost use Rattle.lists.specs.Rankings.{half as lists_on, Lawful};
+ghost use Rattle.roster.specs.Held.{both_of};
 
 use crate::halves::Half;
 use lists::interface::Lists;
@@ -13,13 +12,13 @@ use lists::parties::{Party, Side};
 pub struct Roster {
     pub(crate) crews: Half,
     pub(crate) sites: Half,
-    ghost kept: { ∥ Kept crews sites ∥₁ },
+    ghost kept: { Lawful (both_of crews sites) },
 }
 
 impl Roster {
     // One of the two sides.
     fn half(&self, side: Side) -> &Half
-        ensures { (Filled result.now) × (lists_of result.now ≡ lists_on (both_of self.now.crews self.now.sites) side) }
+        ensures { result.now ≡ lists_on (both_of self.now.crews self.now.sites) side }
     {
         match side {
             Side::Crew => &self.crews,
@@ -31,7 +30,7 @@ impl Roster {
 impl Lists for Roster {
     ghost meaning = { λ x. both_of x.crews x.sites };
 
-    ghost lawful = { λ x. both_lawful x.crews x.sites x.kept };
+    ghost lawful = { λ x. x.kept };
 
     fn count(&self, side: Side) -> u16 {
         self.half(side).count()

@@ -1,45 +1,80 @@
 // The list of one party, with the place of everybody whom it names.
-ghost use Rattle.std.specs.Prelude.{◌≡◌, ◌+◌, ◌<◌, ◌≤◌, [], ◌∷◌, ◌++◌, nat_lt};
-ghost use Rattle.lists.specs.Rankings.{place as place_in};
-ghost use Rattle.roster.specs.Held.{list_of, Placed};
+ghost use Rattle.std.specs.Prelude.{◌≡◌, ◌<◌, ◌≤◌, [], ◌∷◌, ◌++◌, length};
+ghost use Rattle.lists.specs.Rankings.{place as place_in, entry_at, place_of};
+
+use arrayvec::ArrayVec;
+use std::marker::Model;
 
 // How many parties a side may have.
 pub(crate) const LIMIT: usize = 250;
 
-#[derive(Clone, Copy)]
+#[derive(Drop)]
 pub(crate) struct Row {
-    pub length: u16,
-    pub entries: [u16; LIMIT],
-    pub places: [Option<u16>; LIMIT],
+    entries: ArrayVec<u16, LIMIT>,
+    places: [Option<u16>; LIMIT],
 }
 
-impl Row {
+impl Model for Row {
+    ghost use Rattle.std.specs.Prelude.{ℕ, List};
+    ghost use Rattle.roster.specs.Held.{Placed};
+
+    ghost Value = { List ℕ };
+
+    ghost view = { λ r. r.entries.items };
+
+    ghost invariant = { λ r. Placed r.entries.items r.places };
+}
+
+impl Default for Row {
+    ghost is_default = { λ r. r ≡ [] };
+
     // A list that names nobody.
-    pub(crate) fn empty() -> Row
-        ensures { (Placed result) × (result.length ≡ 0) }
-    {
+    fn default() -> Row {
         Row {
-            length: 0,
-            entries: [0; LIMIT],
+            entries: ArrayVec::new(),
             places: [None; LIMIT],
         }
     }
+}
 
-    // Whether the list names a party.
-    pub(crate) fn names(&self, named: u16) -> bool
-        requires { (Placed self.now) × (named < 250) }
-        ensures { result ≡ nat_lt (place_in (list_of self.now) named) self.now.length }
+impl Row {
+    // Those whom the list names, in its order.
+    pub(crate) fn entries(&self) -> &[u16]
+        ensures names { result.now ≡ self.now }
+        ensures few { length self.now ≤ 250 }
     {
-        self.places[named as usize].is_some()
+        self.entries.as_slice()
+    }
+
+    // How many parties the list names.
+    pub(crate) fn len(&self) -> u16
+        ensures { result ≡ length self.now }
+    {
+        self.entries.len() as u16
+    }
+
+    // Whom the list names at a place.
+    pub(crate) fn entry(&self, place: u16) -> Option<u16>
+        ensures { result ≡ entry_at self.now place }
+    {
+        self.entries().get(usize::from(place)).copied()
+    }
+
+    // At which place the list names a party.
+    pub(crate) fn place(&self, named: u16) -> Option<u16>
+        ensures { result ≡ place_of self.now named }
+    {
+        self.places.get(usize::from(named)).copied().flatten()
     }
 
     // Names one more party, whom the list does not name yet.
     pub(crate) fn push(&mut self, named: u16)
-        requires { (Placed self.old) × ((named < 250) × ((self.old.length < 250) × (self.old.length ≤ place_in (list_of self.old) named))) }
-        ensures { (Placed self.new) × ((list_of self.new ≡ list_of self.old ++ named ∷ []) × (self.new.length ≡ self.old.length + 1)) }
+        requires low { named < 250 }
+        requires room { length self.old < 250 }
+        requires absent { length self.old ≤ place_in self.old named }
+        ensures { self.new ≡ self.old ++ named ∷ [] }
     {
-        self.entries[self.length as usize] = named;
-        self.places[named as usize] = Some(self.length);
-        self.length += 1;
+        self.places[usize::from(named)] = Some(self.len());
+        self.entries.push(named);
     }
 }

@@ -1,43 +1,28 @@
-use Rattle.std.proofs.Common.{◌≡◌, ℕ, ◌+◌, ◌*◌, List, [], ◌∷◌, ◌++◌, take, sym, ap, ◌∙◌, ap₂, arith}
+use Rattle.std.proofs.Common.{ℕ, ◌+◌, length, sym, ap, ◌∙◌}
 use Rattle.std.proofs.lemmas.Result.{err_from_is_err_and}
-use Rattle.std.proofs.lemmas.List.FromFn.{map-range_with_len_more}
-use Rattle.roster.specs.Layout.{two_at, entries}
-use Rattle.roster.specs.Held.{list_of}
-use Rattle.roster.specs.FirstFault.{entry_fault}
 use Rattle.lists.proofs.Earliest.{earliest_none, earliest_step, earliest_found}
+use Rattle.roster.specs.Layout.{entries}
+use Rattle.roster.specs.FirstFault.{entry_fault}
+use Rattle.roster.proofs.Shown.{entries_length}
 use Rattle.roster.proofs.reading.read_entries.Goals as goal
 
-pub loop-k-init : goal.loop-k-init
-loop-k-init c = (
-  earliest_none _,
-  c.empty-row.ensures.0,
-  c.empty-row.ensures.1,
-  ap (λ (n : ℕ). take n c.empty-row.result.entries) c.empty-row.ensures.1,
-)
+pub loop-init : goal.loop-init
+loop-init c = record { none = earliest_none _; long = ap length c.default-row.ensures; read = c.default-row.ensures }
 
-pub returns-in_err-named : goal.returns-in_err-named
-returns-in_err-named c =
+pub returns-in_err-read_entry-clause-fault : goal.returns-in_err-read_entry-clause-fault
+returns-in_err-read_entry-clause-fault c =
     let p = err_from_is_err_and c.from_residual.result c.from_residual.ensures.1 in
+    let fault = entry_fault c.args.block.now.roster.now c.args.block.now.number c.args.others in
     rw (p.1, p.2)
-    record {
-      fault = sym (earliest_found c.loop-k.k c.args.len (entry_fault c.args.bytes.now c.args.block c.args.others) _
-          (omega arith) c.loop-k.invariant.0 (sym c.in_err-named.ensures.fault));
-      value = tt;
-    }
+    (sym (earliest_found c.loop.counter c.args.len fault _ c.loop-test.true c.loop.invariant.none
+    (sym (c.in_err-read_entry.ensures.fault ∙ ap fault c.loop.invariant.long))))
 
-pub loop-k-preserved : goal.loop-k-preserved
-loop-k-preserved c = (
-  earliest_step c.loop-k.k (entry_fault c.args.bytes.now c.args.block c.args.others) c.loop-k.invariant.0
-      (sym c.in_ok-named.ensures.fault),
-  c.push.ensures.0,
-  (let n = c.push.ensures.1.1 in let i = c.loop-k.invariant.2 in omega arith),
-  listed,
-)
-  where
-    listed : list_of c.push.new.self ≡ entries c.args.bytes.now c.args.block (c.loop-k.k + 1)
-    listed =
-        let more = map-range_with_len_more (λ (k : ℕ). two_at c.args.bytes.now c.args.block (6 + 2 * k)) 0 c.loop-k.k c.loop-k.k (omega arith) in
-        let e = c.in_ok-named.ensures.value.0 in
-        c.push.ensures.1.0
-        ∙ ap₂ (λ (xs : List ℕ) (v : ℕ). xs ++ v ∷ []) c.loop-k.invariant.3 e
-        ∙ sym more
+pub loop-preserved : goal.loop-preserved
+loop-preserved c =
+    let fault = entry_fault c.args.block.now.roster.now c.args.block.now.number c.args.others in
+    let more = c.in_ok-read_entry.ensures.more ∙ ap (λ (n : ℕ). entries c.args.block.now.roster.now c.args.block.now.number (n + 1)) c.loop.invariant.long in
+    record {
+      none = earliest_step c.loop.counter fault c.loop.invariant.none (sym (c.in_ok-read_entry.ensures.fault ∙ ap fault c.loop.invariant.long));
+      long = ap length more ∙ entries_length c.args.block.now.roster.now c.args.block.now.number (c.loop.counter + 1);
+      read = more;
+    }
