@@ -33,10 +33,10 @@ party_below ls i k l = ⊎_elim (λ h. h)
     (cases_lt i (length ls))
 
 module _ (bs : List ℕ) (s : Side) where
-  pub span_length : length (lists_in bs s) ≡ (count_on bs s)
+  pub span_length : length (lists_in bs s) ≡ count_on bs s
   span_length = length-map-range_with_len (λ i. list_in bs (block_of bs s i)) 0 (count_on bs s)
 
-  pub span_list : (i : ℕ) → i < (count_on bs s) → get_or (lists_in bs s) i [] ≡ list_in bs (block_of bs s i)
+  pub span_list : (i : ℕ) → i < count_on bs s → get_or (lists_in bs s) i [] ≡ list_in bs (block_of bs s i)
   span_list i l = get_or-map-range_with_len (λ j. list_in bs (block_of bs s j)) 0 (count_on bs s) i i [] l (omega arith)
 
 pub entries_length : (bs : List ℕ) (b n : ℕ) → length (entries bs b n) ≡ n
@@ -63,16 +63,16 @@ entries_apart bs b n k m e l same =
     omega arith
 
 module _ (bs : List ℕ) (s : Side) (e : side_fault bs s ≡ None) where
-  pub span_entry : (i k : ℕ) → i < (count_on bs s) → k < two_at bs (block_of bs s i) 4 → entry_fault bs (block_of bs s i) (count_on bs (other s)) k ≡ None
+  pub span_entry : (i k : ℕ) → i < count_on bs s → k < two_at bs (block_of bs s i) 4 → entry_fault bs (block_of bs s i) (count_on bs (other s)) k ≡ None
   span_entry i k l h =
       earliest_each _ _ (none_second (fields_fault bs s i) _ (earliest_each (count_on bs s) (party_fault bs s) e i l)) k h
 
   -- an entry of a list in the span
   span_at : (i k : ℕ) → k < length (get_or (lists_in bs s) i [])
-      → (i < (count_on bs s)) × (k < two_at bs (block_of bs s i) 4) × (get_or (get_or (lists_in bs s) i []) k 0 ≡ two_at bs (block_of bs s i) (6 + 2 * k))
+      → (i < count_on bs s) × (k < two_at bs (block_of bs s i) 4) × (get_or (get_or (lists_in bs s) i []) k 0 ≡ two_at bs (block_of bs s i) (6 + 2 * k))
   span_at i k h =
       let n = span_length bs s in
-      let l : i < (count_on bs s) = let p = party_below (lists_in bs s) i k h in omega arith in
+      let l : i < count_on bs s = let p = party_below (lists_in bs s) i k h in omega arith in
       let at = span_list bs s i l in
       let long = entries_length bs (block_of bs s i) (two_at bs (block_of bs s i) 4) in
       let len = ap length at in

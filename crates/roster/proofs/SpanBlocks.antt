@@ -20,17 +20,17 @@ use Rattle.roster.proofs.Tests.{below_none, most_none}
 use Rattle.roster.proofs.Texts.{party_length}
 
 -- from no fault to the lists laid down
-module _ (bs : List ℕ) (s : Side) (few : (count_on bs (other s)) ≤ 250) (low : (j : ℕ) → get_or bs j 0 < 256) (e : side_fault bs s ≡ None) where
-  fields : (i : ℕ) → i < (count_on bs s) → fields_fault bs s i ≡ None
+module _ (bs : List ℕ) (s : Side) (few : count_on bs (other s) ≤ 250) (low : (j : ℕ) → get_or bs j 0 < 256) (e : side_fault bs s ≡ None) where
+  fields : (i : ℕ) → i < count_on bs s → fields_fault bs s i ≡ None
   fields i l = none_first _ _ (earliest_each (count_on bs s) (party_fault bs s) e i l)
 
-  pub span_short : (i : ℕ) → i < (count_on bs s) → length (list_in bs (block_of bs s i)) ≤ 250
+  pub span_short : (i : ℕ) → i < count_on bs s → length (list_in bs (block_of bs s i)) ≤ 250
   span_short i l =
       let b = list_bound bs s i few (fields i l) in
       let n = entries_length bs (block_of bs s i) (two_at bs (block_of bs s i) 4) in
       omega arith
 
-  pub span_laid : (i : ℕ) → i < (count_on bs s) → Laid bs (block_of bs s i) (party_text (kind_of s) i (get_or (lists_in bs s) i []))
+  pub span_laid : (i : ℕ) → i < count_on bs s → Laid bs (block_of bs s i) (party_text (kind_of s) i (get_or (lists_in bs s) i []))
   span_laid i l =
       let n = party_length (kind_of s) i (list_in bs (block_of bs s i)) in
       let h = span_short i l in
@@ -43,7 +43,7 @@ pub list_few : (ls : List (List ℕ)) (n i : ℕ) → Within ls n → Once ls �
 list_few ls n i within once = pigeonhole n (length (get_or ls i [])) (λ k. get_or (get_or ls i []) k 0) (within i) (once i)
 
 -- from the lists laid down to no fault
-module _ (bs : List ℕ) (s : Side) (ls : List (List ℕ)) (few : (count_on bs (other s)) ≤ 250) (same : (count_on bs s) ≡ length ls)
+module _ (bs : List ℕ) (s : Side) (ls : List (List ℕ)) (few : count_on bs (other s) ≤ 250) (same : count_on bs s ≡ length ls)
     (within : Within ls (count_on bs (other s))) (once : Once ls)
     (laid : (i : ℕ) → i < length ls → Laid bs (block_of bs s i) (party_text (kind_of s) i (get_or ls i []))) where
   short : Short ls
@@ -74,7 +74,7 @@ module _ (bs : List ℕ) (s : Side) (ls : List (List ℕ)) (few : (count_on bs (
       or_none _ _ (below_none _ _ (EntryTooHigh (block_of bs s i) (6 + 2 * k)) (omega arith))
       (most_none _ _ (EntryRepeated (block_of bs s i) (6 + 2 * k)) (new_entry i k l h))
 
-  party_none : (i : ℕ) → i < (count_on bs s) → party_fault bs s i ≡ None
+  party_none : (i : ℕ) → i < count_on bs s → party_fault bs s i ≡ None
   party_none i c =
       let l : i < length ls = omega arith in
       let n = (party i l).len in
