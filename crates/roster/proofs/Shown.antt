@@ -7,11 +7,11 @@ use Rattle.lists.specs.Rankings.{Lawful, place}
 use Rattle.lists.specs.Evidence.Places.{get_or_place, place_first}
 use Rattle.lists.specs.declared.faults.Fault.TheVariants.{EntryTooHigh, EntryRepeated, EntryUnreturned}
 use Rattle.lists.specs.declared.parties.Side.TheVariants.{Crew, Site}
-use Rattle.lists.specs.Order.{unless, earliest}
+use Rattle.lists.specs.Order.{unless}
 use Rattle.lists.specs.declared.parties.Side.{Side}
 use Rattle.lists.specs.Sides.{other}
 use Rattle.roster.specs.Layout.{first_on, count_on, block_of, two_at, entries, list_in, lists_in}
-use Rattle.roster.specs.FirstFault.{entry_fault, fields_fault, party_fault, side_fault, return_fault, returns_fault}
+use Rattle.roster.specs.FirstFault.{entry_fault, fields_fault, party_fault, side_fault, return_fault, party_returns_fault, returns_fault}
 use Rattle.roster.specs.Held.{both_of}
 use Rattle.lists.proofs.Earliest.{earliest_each, none_first, none_second}
 use Rattle.roster.proofs.Tests.{none_most, none_below}
@@ -102,7 +102,7 @@ pub returned_none : (own back : List (List ℕ)) (first : ℕ) → returns_fault
 returned_none own back first e i j h =
     let xs = get_or own i [] in
     let k = place xs j in
-    let f = earliest_each (length own) (λ (p : ℕ). earliest (length (get_or own p [])) (return_fault back (first + p) p (get_or own p []))) e i (party_below own i k h) in
+    let f = earliest_each (length own) (party_returns_fault own back first) e i (party_below own i k h) in
     let g = earliest_each (length xs) (return_fault back (first + i) i xs) f k h in
     subst (λ (v : ℕ). place (get_or back v []) i < length (get_or back v [])) (get_or_place xs j h)
     (none_below _ _ (EntryUnreturned (first + i) (6 + 2 * k)) g)

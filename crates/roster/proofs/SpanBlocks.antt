@@ -6,9 +6,8 @@ use Rattle.lists.specs.Evidence.Places.{no_place, place_first}
 use Rattle.lists.specs.declared.faults.Fault.TheVariants.{EntryTooHigh, EntryRepeated, EntryUnreturned}
 use Rattle.lists.specs.declared.parties.Side.{Side}
 use Rattle.lists.specs.Sides.{other}
-use Rattle.lists.specs.Order.{earliest}
 use Rattle.roster.specs.Layout.{kind_of, count_on, block_of, two_at, entries, list_in, lists_in}
-use Rattle.roster.specs.FirstFault.{fields_fault, entry_fault, party_fault, side_fault, return_fault, returns_fault}
+use Rattle.roster.specs.FirstFault.{fields_fault, entry_fault, party_fault, side_fault, return_fault, party_returns_fault, returns_fault}
 use Rattle.roster.specs.LaidDown.{party_text}
 use Rattle.lists.proofs.Earliest.{none_first, or_none, earliest_each, each_earliest}
 use Rattle.roster.proofs.Laying.{Short, party_short}
@@ -91,7 +90,7 @@ module _ (bs : List ℕ) (s : Side) (ls : List (List ℕ)) (few : count_on bs (o
 -- lists that are returned have no entry that is not
 pub none_returned : (own back : List (List ℕ)) (first : ℕ) → Returned own back → returns_fault own back first ≡ None
 none_returned own back first h =
-    each_earliest (length own) (λ i. earliest (length (get_or own i [])) (return_fault back (first + i) i (get_or own i [])))
+    each_earliest (length own) (party_returns_fault own back first)
     (λ i l. each_earliest (length (get_or own i [])) (return_fault back (first + i) i (get_or own i [])) (λ k b.
     below_none _ _ (EntryUnreturned (first + i) (6 + 2 * k))
     (h i (get_or (get_or own i []) k 0) (let f = place_first (get_or own i []) (get_or (get_or own i []) k 0) k b refl in omega arith))))

@@ -11,6 +11,7 @@ pub(crate) const LIMIT: usize = 250;
 #[derive(Drop)]
 pub(crate) struct Row {
     entries: ArrayVec<u16, LIMIT>,
+    // By the number of a party, its place in the list.
     places: [Option<u16>; LIMIT],
 }
 
