@@ -6,7 +6,7 @@ use crate::rows::{LIMIT, Row};
 use arrayvec::ArrayVec;
 use std::marker::Model;
 
-#[derive(Drop)]
+#[derive(Default, Drop)]
 pub(crate) struct Half {
     rows: ArrayVec<Row, LIMIT>,
 }
@@ -17,17 +17,6 @@ impl Model for Half {
     ghost Value = { List (List ℕ) };
 
     ghost view = { λ h. h.rows.items };
-}
-
-impl Default for Half {
-    ghost is_default = { λ h. h ≡ [] };
-
-    // A side without parties.
-    fn default() -> Half {
-        Half {
-            rows: ArrayVec::new(),
-        }
-    }
 }
 
 impl Half {
