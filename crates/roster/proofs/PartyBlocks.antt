@@ -1,8 +1,8 @@
 -- A party's block without a fault in its fields is its list laid down, and the other way round.
-use Rattle.std.proofs.Common.{◌≡◌, ℕ, ◌+◌, ◌-◌, ◌*◌, ◌/◌, ◌%◌, ◌<◌, ◌≤◌, List, length, get_or, None, sym, ◌∙◌, subst, ⊎_elim, arith}
+use Rattle.std.proofs.Common.{◌≡◌, ℕ, ◌+◌, ◌*◌, ◌<◌, ◌≤◌, List, length, get_or, None, sym, ◌∙◌, ⊎_elim, arith}
 use Rattle.std.proofs.lemmas.List.FromFn.{fill_by_all}
 use Rattle.std.proofs.lemmas.List.{get_or_past}
-use Rattle.std.proofs.lemmas.Bool.{cases_lt, cases_eq}
+use Rattle.std.proofs.lemmas.Bool.{cases_lt}
 use Rattle.lists.specs.declared.faults.Fault.TheVariants.{BlockCheck, BlockField}
 use Rattle.lists.specs.declared.parties.Side.{Side}
 use Rattle.lists.specs.Sides.{other}
@@ -122,15 +122,16 @@ module _ (bs : List ℕ) (b kind i : ℕ) (xs : List ℕ) (short : length xs ≤
       sym (fill_by_all (λ (k : ℕ). two_at bs b (6 + 2 * k)) xs (two_at bs b 4) 0 (sym n)
       (λ k l. sym (h.table k (omega arith))))
 
+  zero_entry : (k : ℕ) → k < 251 → length xs ≤ k → two_at bs b (6 + 2 * k) ≡ 0
+  zero_entry k l p = h.table k l ∙ get_or_past xs k 0 p
+
   party_behind : (j : ℕ) → 6 + 2 * two_at bs b 4 ≤ j → j < 508 → byte_at bs b j ≡ 0
-  party_behind j l m =
-      let k = (j - 6) / 2 in
+  party_behind j g l =
       let n = h.len in
-      let t = h.table k (omega arith) ∙ get_or_past xs k 0 (omega arith) in
-      ⊎_elim
-      (λ z. let p : 6 + 2 * k ≡ j = omega arith in subst (λ (x : ℕ). byte_at bs b x ≡ 0) p (omega arith))
-      (λ z. let p : 6 + 2 * k + 1 ≡ j = omega arith in subst (λ (x : ℕ). byte_at bs b x ≡ 0) p (omega arith))
-      (cases_eq ((j - 6) % 2) 0)
+      entry_bytes (λ (x : ℕ). 6 + 2 * length xs ≤ x → byte_at bs b x ≡ 0)
+      (λ k m p. let z = zero_entry k m (omega arith) in omega arith)
+      (λ k m p. let z = zero_entry k m (omega arith) in omega arith)
+      j (omega arith) l (omega arith)
 
 pub party_fields : (bs : List ℕ) (s : Side) (i : ℕ) (xs : List ℕ) → length xs ≤ 250 → length xs ≤ count_on bs (other s)
     → Party bs (block_of bs s i) (kind_of s) i xs → fields_fault bs s i ≡ None
