@@ -8,10 +8,10 @@ use Rattle.roster.specs.FirstFault.{check_fault, byte_fault, zero_fault, bound_f
 use Rattle.roster.specs.LaidDown.{head_text}
 use Rattle.lists.proofs.Earliest.{none_first, none_second, or_none}
 use Rattle.roster.proofs.Numbers.{high_byte, low_byte, two_back}
-use Rattle.roster.proofs.PartyBlocks.{zeros_fit, fit_zeros}
 use Rattle.roster.proofs.Sealed.{Reads}
 use Rattle.roster.proofs.Steps.{first_then, none_left}
 use Rattle.roster.proofs.Tests.{none_equal, equal_none, none_most, most_none}
+use Rattle.roster.proofs.Zeros.{zeros_fit, fit_zeros}
 
 -- the fields of block 0
 pub record Head (bs : List ℕ) : Type 0 where

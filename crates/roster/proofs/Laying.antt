@@ -1,48 +1,23 @@
 -- Block by block: the bytes of lists laid down.
-use Rattle.std.proofs.Common.{◌≡◌, ℕ, zero, suc, ◌+◌, ◌-◌, ◌*◌, ◌/◌, ◌%◌, ◌<◌, ◌≤◌, List, [], ◌++◌, length, get_or, sym, refl, ap, ◌∙◌, subst, arith}
-use Rattle.std.specs.List.{range_with_len, flat_map}
+use Rattle.std.proofs.Common.{◌≡◌, ℕ, ◌+◌, ◌-◌, ◌*◌, ◌/◌, ◌%◌, ◌<◌, ◌≤◌, List, [], ◌++◌, length, get_or, sym, ap, ◌∙◌, subst, arith}
+use Rattle.std.specs.List.{range_with_len}
 use Rattle.std.proofs.lemmas.List.{get_or_append_left, get_or-append_right, length-append, ext_get_or}
+use Rattle.std.proofs.lemmas.List.FromFn.{length-range_with_len, get_or-range_with_len}
 use Rattle.lists.specs.Rankings.{Rankings, half, size}
 use Rattle.lists.specs.declared.parties.Side.{Side}
 use Rattle.lists.specs.declared.parties.Side.TheVariants.{Crew, Site}
 use Rattle.roster.specs.Layout.{byte_at, kind_of}
 use Rattle.roster.specs.LaidDown.{block, head_text, party_text, side_blocks, laid_down}
+use Rattle.roster.proofs.Pieces.{pieces_length, piece_at}
 use Rattle.roster.proofs.Sealed.{Laid, block_length}
 use Rattle.roster.proofs.Texts.{party_length}
 
--- blocks one after another
-module _ (f : ℕ → List ℕ) (whole : (i : ℕ) → length (f i) ≡ 512) where
-  pub blocks_length : (a n : ℕ) → length (flat_map f (range_with_len a n)) ≡ 512 * n
-  blocks_length a zero = refl
-  blocks_length a (suc n) =
-      let h = blocks_length (a + 1) n in
-      let w = whole a in
-      let p = length-append (f a) (flat_map f (range_with_len (a + 1) n)) in
-      omega arith
-
-  pub blocks_at : (a n b i : ℕ) → b < n → i < 512 → byte_at (flat_map f (range_with_len a n)) b i ≡ get_or (f (a + b)) i 0
-  blocks_at a zero b i l h = absurd (omega arith)
-  blocks_at a (suc n) zero i l h =
-      let w = whole a in
-      let z : 0 + i ≡ i = omega arith in
-      let y : a ≡ a + 0 = omega arith in
-      ap (λ (m : ℕ). get_or (f a ++ flat_map f (range_with_len (a + 1) n)) m 0) z
-      ∙ get_or_append_left (f a) (flat_map f (range_with_len (a + 1) n)) 0 i (omega arith)
-      ∙ ap (λ (m : ℕ). get_or (f m) i 0) y
-  blocks_at a (suc n) (suc b) i l h =
-      let z : (512 * suc b + i) - 512 ≡ 512 * b + i = omega arith in
-      let y : a + 1 + b ≡ a + suc b = omega arith in
-      get_or-append_right (f a) (flat_map f (range_with_len (a + 1) n)) 512 (512 * suc b + i) 0 (whole a) (omega arith)
-      ∙ ap (λ (m : ℕ). get_or (flat_map f (range_with_len (a + 1) n)) m 0) z
-      ∙ blocks_at (a + 1) n b i (omega arith) h
-      ∙ ap (λ (m : ℕ). get_or (f m) i 0) y
-
 -- blocks before and behind
 module _ (xs ys : List ℕ) (m : ℕ) (long : length xs ≡ 512 * m) where
-  pub before_at : (b i : ℕ) → b < m → i < 512 → byte_at (xs ++ ys) b i ≡ byte_at xs b i
+  before_at : (b i : ℕ) → b < m → i < 512 → byte_at (xs ++ ys) b i ≡ byte_at xs b i
   before_at b i l h = get_or_append_left xs ys 0 (512 * b + i) (omega arith)
 
-  pub behind_at : (b i : ℕ) → byte_at (xs ++ ys) (m + b) i ≡ byte_at ys b i
+  behind_at : (b i : ℕ) → byte_at (xs ++ ys) (m + b) i ≡ byte_at ys b i
   behind_at b i =
       let z : (512 * (m + b) + i) - 512 * m ≡ 512 * b + i = omega arith in
       get_or-append_right xs ys (512 * m) (512 * (m + b) + i) 0 long (omega arith) ∙ ap (λ (k : ℕ). get_or ys k 0) z
@@ -65,14 +40,17 @@ module _ (kind : ℕ) (ls : List (List ℕ)) (short : Short ls) where
   party_whole : (i : ℕ) → length (block (party_text kind i (get_or ls i []))) ≡ 512
   party_whole i = block_length (party_text kind i (get_or ls i [])) (party_short i)
 
-  pub side_blocks_length : length (side_blocks kind ls) ≡ 512 * length ls
-  side_blocks_length = blocks_length (λ i. block (party_text kind i (get_or ls i []))) party_whole 0 (length ls)
+  side_blocks_length : length (side_blocks kind ls) ≡ 512 * length ls
+  side_blocks_length =
+      pieces_length (λ i. block (party_text kind i (get_or ls i []))) 512 party_whole (range_with_len 0 (length ls))
+      ∙ ap (λ (n : ℕ). 512 * n) (length-range_with_len 0 (length ls))
 
-  pub side_blocks_at : (i : ℕ) → i < length ls → Laid (side_blocks kind ls) i (party_text kind i (get_or ls i []))
+  side_blocks_at : (i : ℕ) → i < length ls → Laid (side_blocks kind ls) i (party_text kind i (get_or ls i []))
   side_blocks_at i l j h =
+      let n = length-range_with_len 0 (length ls) in
       let z : 0 + i ≡ i = omega arith in
-      blocks_at (λ k. block (party_text kind k (get_or ls k []))) party_whole 0 (length ls) i j l h
-      ∙ ap (λ (k : ℕ). get_or (block (party_text kind k (get_or ls k []))) j 0) z
+      piece_at (λ i. block (party_text kind i (get_or ls i []))) 512 party_whole (range_with_len 0 (length ls)) i j 0 (omega arith) h
+      ∙ ap (λ (k : ℕ). get_or (block (party_text kind k (get_or ls k []))) j 0) (get_or-range_with_len 0 (length ls) i 0 l ∙ z)
 
 -- the block of a side's party 0
 abbrev pub first_in : Rankings → Side → ℕ

@@ -3,6 +3,7 @@ pub mod Law
 pub mod Laying
 pub mod Numbers
 pub mod PartyBlocks
+pub mod Pieces
 pub mod Placing
 pub mod Sealed
 pub mod Shown

@@ -1,32 +1,22 @@
 -- A party's block without a fault in its fields is its list laid down, and the other way round.
-use Rattle.std.proofs.Common.{◌≡◌, ℕ, ◌+◌, ◌-◌, ◌*◌, ◌/◌, ◌%◌, ◌<◌, ◌≤◌, List, length, get_or, None, sym, ◌∙◌, subst, ⊎_elim, arith}
+use Rattle.std.proofs.Common.{◌≡◌, ℕ, ◌+◌, ◌*◌, ◌<◌, ◌≤◌, List, length, get_or, None, sym, ◌∙◌, ⊎_elim, arith}
 use Rattle.std.proofs.lemmas.List.FromFn.{fill_by_all}
 use Rattle.std.proofs.lemmas.List.{get_or_past}
-use Rattle.std.proofs.lemmas.Bool.{cases_lt, cases_eq}
+use Rattle.std.proofs.lemmas.Bool.{cases_lt}
 use Rattle.lists.specs.declared.faults.Fault.TheVariants.{BlockCheck, BlockField}
 use Rattle.lists.specs.declared.parties.Side.{Side}
 use Rattle.lists.specs.Sides.{other}
 use Rattle.roster.specs.Layout.{kind_of, count_on, block_of, byte_at, two_at, four_at, seal, list_in}
-use Rattle.roster.specs.FirstFault.{check_fault, byte_fault, number_fault, bound_fault, zero_fault, fields_fault}
+use Rattle.roster.specs.FirstFault.{check_fault, byte_fault, number_fault, bound_fault, fields_fault}
 use Rattle.roster.specs.LaidDown.{party_text}
-use Rattle.lists.proofs.Earliest.{none_first, none_second, or_none, earliest_each, each_earliest}
+use Rattle.lists.proofs.Earliest.{none_first, none_second, or_none}
 use Rattle.roster.proofs.Numbers.{high_byte, low_byte, two_back}
 use Rattle.roster.proofs.Sealed.{Reads}
 use Rattle.roster.proofs.Shown.{entries_at, entries_length}
 use Rattle.roster.proofs.Steps.{first_then}
 use Rattle.roster.proofs.Tests.{none_equal, equal_none, none_most, most_none}
 use Rattle.roster.proofs.Texts.{entry_high, entry_low, entry_bytes}
-
--- zeros, and no fault among them
-pub zeros_fit : (bs : List ℕ) (b from to : ℕ) → zero_fault bs b from to ≡ None → (i : ℕ) → from ≤ i → i < to → byte_at bs b i ≡ 0
-zeros_fit bs b from to e i l h =
-    let z : from + (i - from) ≡ i = omega arith in
-    subst (λ (j : ℕ). byte_at bs b j ≡ 0) z
-    (none_equal _ _ (BlockField b (from + (i - from))) (earliest_each (to - from) (λ (k : ℕ). byte_fault bs b (from + k) 0) e (i - from) (omega arith)))
-
-pub fit_zeros : (bs : List ℕ) (b from to : ℕ) → ((i : ℕ) → from ≤ i → i < to → byte_at bs b i ≡ 0) → zero_fault bs b from to ≡ None
-fit_zeros bs b from to h = each_earliest (to - from) (λ (k : ℕ). byte_fault bs b (from + k) 0)
-    (λ k l. equal_none _ _ (BlockField b (from + k)) (h (from + k) (omega arith) (omega arith)))
+use Rattle.roster.proofs.Zeros.{zeros_fit, fit_zeros}
 
 -- the fields of a party's block and its entries, none behind the list
 pub record Party (bs : List ℕ) (b kind i : ℕ) (xs : List ℕ) : Type 0 where
@@ -74,10 +64,10 @@ module _ (bs : List ℕ) (b kind i : ℕ) (xs : List ℕ) where
 -- what the faults that a party's fields lack say
 record Fields (bs : List ℕ) (s : Side) (i : ℕ) : Type 0 where
   fitting : seal (byte_at bs (block_of bs s i)) ≡ four_at bs (block_of bs s i) 508
-  sort : byte_at bs (block_of bs s i) 0 ≡ (kind_of s)
+  sort : byte_at bs (block_of bs s i) 0 ≡ kind_of s
   plain : byte_at bs (block_of bs s i) 1 ≡ 0
   number : two_at bs (block_of bs s i) 2 ≡ i
-  bound : two_at bs (block_of bs s i) 4 ≤ (count_on bs (other s))
+  bound : two_at bs (block_of bs s i) 4 ≤ count_on bs (other s)
   behind : (j : ℕ) → 6 + 2 * two_at bs (block_of bs s i) 4 ≤ j → j < 508 → byte_at bs (block_of bs s i) j ≡ 0
 
 fields_fit : (bs : List ℕ) (s : Side) (i : ℕ) → fields_fault bs s i ≡ None → Fields bs s i
@@ -97,8 +87,8 @@ fields_fit bs s i e =
     }
 
 -- a block whose fields have no fault holds its own list
-module _ (bs : List ℕ) (s : Side) (i : ℕ) (few : (count_on bs (other s)) ≤ 250) (e : fields_fault bs s i ≡ None) where
-  pub list_bound : two_at bs (block_of bs s i) 4 ≤ (count_on bs (other s))
+module _ (bs : List ℕ) (s : Side) (i : ℕ) (few : count_on bs (other s) ≤ 250) (e : fields_fault bs s i ≡ None) where
+  pub list_bound : two_at bs (block_of bs s i) 4 ≤ count_on bs (other s)
   list_bound = (fields_fit bs s i e).bound
 
   entry_table : (k : ℕ) → k < 251 → two_at bs (block_of bs s i) (6 + 2 * k) ≡ get_or (list_in bs (block_of bs s i)) k 0
@@ -132,17 +122,18 @@ module _ (bs : List ℕ) (b kind i : ℕ) (xs : List ℕ) (short : length xs ≤
       sym (fill_by_all (λ (k : ℕ). two_at bs b (6 + 2 * k)) xs (two_at bs b 4) 0 (sym n)
       (λ k l. sym (h.table k (omega arith))))
 
-  party_behind : (j : ℕ) → 6 + 2 * two_at bs b 4 ≤ j → j < 508 → byte_at bs b j ≡ 0
-  party_behind j l m =
-      let k = (j - 6) / 2 in
-      let n = h.len in
-      let t = h.table k (omega arith) ∙ get_or_past xs k 0 (omega arith) in
-      ⊎_elim
-      (λ z. let p : 6 + 2 * k ≡ j = omega arith in subst (λ (x : ℕ). byte_at bs b x ≡ 0) p (omega arith))
-      (λ z. let p : 6 + 2 * k + 1 ≡ j = omega arith in subst (λ (x : ℕ). byte_at bs b x ≡ 0) p (omega arith))
-      (cases_eq ((j - 6) % 2) 0)
+  zero_entry : (k : ℕ) → k < 251 → length xs ≤ k → two_at bs b (6 + 2 * k) ≡ 0
+  zero_entry k l p = h.table k l ∙ get_or_past xs k 0 p
 
-pub party_fields : (bs : List ℕ) (s : Side) (i : ℕ) (xs : List ℕ) → length xs ≤ 250 → length xs ≤ (count_on bs (other s))
+  party_behind : (j : ℕ) → 6 + 2 * two_at bs b 4 ≤ j → j < 508 → byte_at bs b j ≡ 0
+  party_behind j g l =
+      let n = h.len in
+      entry_bytes (λ (x : ℕ). 6 + 2 * length xs ≤ x → byte_at bs b x ≡ 0)
+      (λ k m p. let z = zero_entry k m (omega arith) in omega arith)
+      (λ k m p. let z = zero_entry k m (omega arith) in omega arith)
+      j (omega arith) l (omega arith)
+
+pub party_fields : (bs : List ℕ) (s : Side) (i : ℕ) (xs : List ℕ) → length xs ≤ 250 → length xs ≤ count_on bs (other s)
     → Party bs (block_of bs s i) (kind_of s) i xs → fields_fault bs s i ≡ None
 party_fields bs s i xs short bound h =
     let n = h.len in

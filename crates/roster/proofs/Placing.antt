@@ -1,8 +1,8 @@
 -- Tables of places, as a number is put behind a list.
-use Rattle.std.proofs.Common.{◌≡◌, ℕ, ◌+◌, ◌<◌, ◌≤◌, cond, eqb, List, [], ◌∷◌, ◌++◌, length, set, replicate, Some, None, Option, refl, ◌∙◌, ⊎_elim, arith, one-add}
+use Rattle.std.proofs.Common.{◌≡◌, ℕ, ◌+◌, ◌<◌, ◌≤◌, cond, eqb, List, [], ◌∷◌, ◌++◌, length, get_or, set, Some, None, Option, refl, ◌∙◌, ⊎_elim, arith, one-add}
 use Rattle.std.proofs.lemmas.Bool.{cases_lt, cases_eq}
 use Rattle.std.proofs.lemmas.Bool.Decides.{nat_tests}
-use Rattle.std.proofs.lemmas.List.{get_or-replicate, get_or-set_same, get_or-set_other, get_or_past, length-replicate, length_push}
+use Rattle.std.proofs.lemmas.List.{get_or-set_same, get_or-set_other, get_or_past, length_push}
 use Rattle.std.proofs.lemmas.List.Folds.{position_or_len_push}
 use Rattle.std.proofs.lemmas.List.Recursion.{is_position_or_len}
 use Rattle.std.specs.List.{position_or_len}
@@ -10,12 +10,9 @@ use Rattle.lists.specs.Rankings.{place}
 use Rattle.lists.specs.Evidence.Places.{place_le}
 use Rattle.roster.specs.Held.{Placed}
 
--- an empty table fits a list that names nobody
-pub Placed-replicate : (n : ℕ) → Placed [] (replicate n None)
-Placed-replicate n v = ⊎_elim
-    (λ l. get_or-replicate n v None None l)
-    (λ l. get_or_past (replicate n None) v None (let e = length-replicate {A = Option ℕ} n None in omega arith))
-    (cases_lt v n)
+-- a table without places fits a list that names nobody
+pub Placed_none : (places : List (Option ℕ)) → ((v : ℕ) → v < length places → get_or places v None ≡ None) → Placed [] places
+Placed_none places none v = ⊎_elim (none v) (get_or_past places v None) (cases_lt v (length places))
 
 place_first_passing : (xs : List ℕ) (v : ℕ) → place xs v ≡ position_or_len (λ x. eqb x v) xs
 place_first_passing xs v = is_position_or_len (λ ys. place ys v) (λ x. eqb x v) refl (λ x ys. rw one-add refl) xs

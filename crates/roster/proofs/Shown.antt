@@ -7,11 +7,11 @@ use Rattle.lists.specs.Rankings.{Lawful, place}
 use Rattle.lists.specs.Evidence.Places.{get_or_place, place_first}
 use Rattle.lists.specs.declared.faults.Fault.TheVariants.{EntryTooHigh, EntryRepeated, EntryUnreturned}
 use Rattle.lists.specs.declared.parties.Side.TheVariants.{Crew, Site}
-use Rattle.lists.specs.Order.{unless, earliest}
+use Rattle.lists.specs.Order.{unless}
 use Rattle.lists.specs.declared.parties.Side.{Side}
 use Rattle.lists.specs.Sides.{other}
 use Rattle.roster.specs.Layout.{first_on, count_on, block_of, two_at, entries, list_in, lists_in}
-use Rattle.roster.specs.FirstFault.{entry_fault, fields_fault, party_fault, side_fault, return_fault, returns_fault}
+use Rattle.roster.specs.FirstFault.{entry_fault, fields_fault, party_fault, side_fault, return_fault, party_returns_fault, returns_fault}
 use Rattle.roster.specs.Held.{both_of}
 use Rattle.lists.proofs.Earliest.{earliest_each, none_first, none_second}
 use Rattle.roster.proofs.Tests.{none_most, none_below}
@@ -27,16 +27,16 @@ abbrev pub Returned : List (List ℕ) → List (List ℕ) → Type 0
 Returned own back = (i j : ℕ) → place (get_or own i []) j < length (get_or own i []) → place (get_or back j []) i < length (get_or back j [])
 
 -- a party that has a list with something in it is one of the side
-pub party_below : (ls : List (List ℕ)) (i k : ℕ) → k < length (get_or ls i []) → i < length ls
+party_below : (ls : List (List ℕ)) (i k : ℕ) → k < length (get_or ls i []) → i < length ls
 party_below ls i k l = ⊎_elim (λ h. h)
     (λ h. absurd (let e = ap length (get_or_past ls i [] h) in omega arith))
     (cases_lt i (length ls))
 
 module _ (bs : List ℕ) (s : Side) where
-  pub span_length : length (lists_in bs s) ≡ (count_on bs s)
+  pub span_length : length (lists_in bs s) ≡ count_on bs s
   span_length = length-map-range_with_len (λ i. list_in bs (block_of bs s i)) 0 (count_on bs s)
 
-  pub span_list : (i : ℕ) → i < (count_on bs s) → get_or (lists_in bs s) i [] ≡ list_in bs (block_of bs s i)
+  pub span_list : (i : ℕ) → i < count_on bs s → get_or (lists_in bs s) i [] ≡ list_in bs (block_of bs s i)
   span_list i l = get_or-map-range_with_len (λ j. list_in bs (block_of bs s j)) 0 (count_on bs s) i i [] l (omega arith)
 
 pub entries_length : (bs : List ℕ) (b n : ℕ) → length (entries bs b n) ≡ n
@@ -50,12 +50,12 @@ module _ (bs : List ℕ) (b n k : ℕ) (e : entry_fault bs b n k ≡ None) where
   pub entry_low : two_at bs b (6 + 2 * k) < n
   entry_low = none_below _ _ (EntryTooHigh b (6 + 2 * k)) (none_first _ _ e)
 
-  pub entry_new : k ≤ place (entries bs b k) (two_at bs b (6 + 2 * k))
+  entry_new : k ≤ place (entries bs b k) (two_at bs b (6 + 2 * k))
   entry_new = none_most _ _ (EntryRepeated b (6 + 2 * k))
       (none_second (unless (ltb (two_at bs b (6 + 2 * k)) n) (EntryTooHigh b (6 + 2 * k))) _ e)
 
 -- two equal entries: the later one would be repeated
-pub entries_apart : (bs : List ℕ) (b n k m : ℕ) → entry_fault bs b n m ≡ None → k < m → two_at bs b (6 + 2 * k) ≡ two_at bs b (6 + 2 * m) → ⊥
+entries_apart : (bs : List ℕ) (b n k m : ℕ) → entry_fault bs b n m ≡ None → k < m → two_at bs b (6 + 2 * k) ≡ two_at bs b (6 + 2 * m) → ⊥
 entries_apart bs b n k m e l same =
     let new = entry_new bs b n m e in
     let long = entries_length bs b m in
@@ -63,29 +63,29 @@ entries_apart bs b n k m e l same =
     omega arith
 
 module _ (bs : List ℕ) (s : Side) (e : side_fault bs s ≡ None) where
-  pub span_entry : (i k : ℕ) → i < (count_on bs s) → k < two_at bs (block_of bs s i) 4 → entry_fault bs (block_of bs s i) (count_on bs (other s)) k ≡ None
+  span_entry : (i k : ℕ) → i < count_on bs s → k < two_at bs (block_of bs s i) 4 → entry_fault bs (block_of bs s i) (count_on bs (other s)) k ≡ None
   span_entry i k l h =
       earliest_each _ _ (none_second (fields_fault bs s i) _ (earliest_each (count_on bs s) (party_fault bs s) e i l)) k h
 
   -- an entry of a list in the span
   span_at : (i k : ℕ) → k < length (get_or (lists_in bs s) i [])
-      → (i < (count_on bs s)) × (k < two_at bs (block_of bs s i) 4) × (get_or (get_or (lists_in bs s) i []) k 0 ≡ two_at bs (block_of bs s i) (6 + 2 * k))
+      → (i < count_on bs s) × (k < two_at bs (block_of bs s i) 4) × (get_or (get_or (lists_in bs s) i []) k 0 ≡ two_at bs (block_of bs s i) (6 + 2 * k))
   span_at i k h =
       let n = span_length bs s in
-      let l : i < (count_on bs s) = let p = party_below (lists_in bs s) i k h in omega arith in
+      let l : i < count_on bs s = let p = party_below (lists_in bs s) i k h in omega arith in
       let at = span_list bs s i l in
       let long = entries_length bs (block_of bs s i) (two_at bs (block_of bs s i) 4) in
       let len = ap length at in
       let b : k < two_at bs (block_of bs s i) 4 = omega arith in
       (l, b, ap (λ (xs : List ℕ). get_or xs k 0) at ∙ entries_at bs (block_of bs s i) (two_at bs (block_of bs s i) 4) k b)
 
-  pub span_within : Within (lists_in bs s) (count_on bs (other s))
+  span_within : Within (lists_in bs s) (count_on bs (other s))
   span_within i k h =
       let p = span_at i k h in
       let low = entry_low bs (block_of bs s i) (count_on bs (other s)) k (span_entry i k p.0 p.1) in
       rw p.2 low
 
-  pub span_once : Once (lists_in bs s)
+  span_once : Once (lists_in bs s)
   span_once i k m h j same =
       let p = span_at i k h in
       let q = span_at i m j in
@@ -98,11 +98,11 @@ module _ (bs : List ℕ) (s : Side) (e : side_fault bs s ≡ None) where
       (cases_order k m)
 
 -- no entry that is not returned
-pub returned_none : (own back : List (List ℕ)) (first : ℕ) → returns_fault own back first ≡ None → Returned own back
+returned_none : (own back : List (List ℕ)) (first : ℕ) → returns_fault own back first ≡ None → Returned own back
 returned_none own back first e i j h =
     let xs = get_or own i [] in
     let k = place xs j in
-    let f = earliest_each (length own) (λ (p : ℕ). earliest (length (get_or own p [])) (return_fault back (first + p) p (get_or own p []))) e i (party_below own i k h) in
+    let f = earliest_each (length own) (party_returns_fault own back first) e i (party_below own i k h) in
     let g = earliest_each (length xs) (return_fault back (first + i) i xs) f k h in
     subst (λ (v : ℕ). place (get_or back v []) i < length (get_or back v [])) (get_or_place xs j h)
     (none_below _ _ (EntryUnreturned (first + i) (6 + 2 * k)) g)

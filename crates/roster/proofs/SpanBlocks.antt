@@ -6,9 +6,8 @@ use Rattle.lists.specs.Evidence.Places.{no_place, place_first}
 use Rattle.lists.specs.declared.faults.Fault.TheVariants.{EntryTooHigh, EntryRepeated, EntryUnreturned}
 use Rattle.lists.specs.declared.parties.Side.{Side}
 use Rattle.lists.specs.Sides.{other}
-use Rattle.lists.specs.Order.{earliest}
 use Rattle.roster.specs.Layout.{kind_of, count_on, block_of, two_at, entries, list_in, lists_in}
-use Rattle.roster.specs.FirstFault.{fields_fault, entry_fault, party_fault, side_fault, return_fault, returns_fault}
+use Rattle.roster.specs.FirstFault.{fields_fault, entry_fault, party_fault, side_fault, return_fault, party_returns_fault, returns_fault}
 use Rattle.roster.specs.LaidDown.{party_text}
 use Rattle.lists.proofs.Earliest.{none_first, or_none, earliest_each, each_earliest}
 use Rattle.roster.proofs.Laying.{Short, party_short}
@@ -20,17 +19,17 @@ use Rattle.roster.proofs.Tests.{below_none, most_none}
 use Rattle.roster.proofs.Texts.{party_length}
 
 -- from no fault to the lists laid down
-module _ (bs : List ℕ) (s : Side) (few : (count_on bs (other s)) ≤ 250) (low : (j : ℕ) → get_or bs j 0 < 256) (e : side_fault bs s ≡ None) where
-  fields : (i : ℕ) → i < (count_on bs s) → fields_fault bs s i ≡ None
+module _ (bs : List ℕ) (s : Side) (few : count_on bs (other s) ≤ 250) (low : (j : ℕ) → get_or bs j 0 < 256) (e : side_fault bs s ≡ None) where
+  fields : (i : ℕ) → i < count_on bs s → fields_fault bs s i ≡ None
   fields i l = none_first _ _ (earliest_each (count_on bs s) (party_fault bs s) e i l)
 
-  pub span_short : (i : ℕ) → i < (count_on bs s) → length (list_in bs (block_of bs s i)) ≤ 250
+  span_short : (i : ℕ) → i < count_on bs s → length (list_in bs (block_of bs s i)) ≤ 250
   span_short i l =
       let b = list_bound bs s i few (fields i l) in
       let n = entries_length bs (block_of bs s i) (two_at bs (block_of bs s i) 4) in
       omega arith
 
-  pub span_laid : (i : ℕ) → i < (count_on bs s) → Laid bs (block_of bs s i) (party_text (kind_of s) i (get_or (lists_in bs s) i []))
+  pub span_laid : (i : ℕ) → i < count_on bs s → Laid bs (block_of bs s i) (party_text (kind_of s) i (get_or (lists_in bs s) i []))
   span_laid i l =
       let n = party_length (kind_of s) i (list_in bs (block_of bs s i)) in
       let h = span_short i l in
@@ -43,7 +42,7 @@ pub list_few : (ls : List (List ℕ)) (n i : ℕ) → Within ls n → Once ls �
 list_few ls n i within once = distinct_few (get_or ls i []) n (within i) (once i)
 
 -- from the lists laid down to no fault
-module _ (bs : List ℕ) (s : Side) (ls : List (List ℕ)) (few : (count_on bs (other s)) ≤ 250) (same : (count_on bs s) ≡ length ls)
+module _ (bs : List ℕ) (s : Side) (ls : List (List ℕ)) (few : count_on bs (other s) ≤ 250) (same : count_on bs s ≡ length ls)
     (within : Within ls (count_on bs (other s))) (once : Once ls)
     (laid : (i : ℕ) → i < length ls → Laid bs (block_of bs s i) (party_text (kind_of s) i (get_or ls i []))) where
   short : Short ls
@@ -74,7 +73,7 @@ module _ (bs : List ℕ) (s : Side) (ls : List (List ℕ)) (few : (count_on bs (
       or_none _ _ (below_none _ _ (EntryTooHigh (block_of bs s i) (6 + 2 * k)) (omega arith))
       (most_none _ _ (EntryRepeated (block_of bs s i) (6 + 2 * k)) (new_entry i k l h))
 
-  party_none : (i : ℕ) → i < (count_on bs s) → party_fault bs s i ≡ None
+  party_none : (i : ℕ) → i < count_on bs s → party_fault bs s i ≡ None
   party_none i c =
       let l : i < length ls = omega arith in
       let n = (party i l).len in
@@ -91,7 +90,7 @@ module _ (bs : List ℕ) (s : Side) (ls : List (List ℕ)) (few : (count_on bs (
 -- lists that are returned have no entry that is not
 pub none_returned : (own back : List (List ℕ)) (first : ℕ) → Returned own back → returns_fault own back first ≡ None
 none_returned own back first h =
-    each_earliest (length own) (λ i. earliest (length (get_or own i [])) (return_fault back (first + i) i (get_or own i [])))
+    each_earliest (length own) (party_returns_fault own back first)
     (λ i l. each_earliest (length (get_or own i [])) (return_fault back (first + i) i (get_or own i [])) (λ k b.
     below_none _ _ (EntryUnreturned (first + i) (6 + 2 * k))
     (h i (get_or (get_or own i []) k 0) (let f = place_first (get_or own i []) (get_or (get_or own i []) k 0) k b refl in omega arith))))

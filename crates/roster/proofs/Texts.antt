@@ -1,40 +1,38 @@
 -- What stands where in the text of a party's block.
-use Rattle.std.proofs.Common.{◌≡◌, ℕ, zero, suc, ◌+◌, ◌-◌, ◌*◌, ◌/◌, ◌%◌, ◌<◌, ◌≤◌, List, [], ◌∷◌, length, get_or, sym, refl, ap, ◌∙◌, subst, ⊎_elim, arith}
+use Rattle.std.proofs.Common.{◌≡◌, ℕ, ◌+◌, ◌-◌, ◌*◌, ◌/◌, ◌%◌, ◌<◌, ◌≤◌, List, length, get_or, sym, refl, ap, ◌∙◌, subst, ⊎_elim, arith}
 use Rattle.std.specs.List.{flat_map}
-use Rattle.std.proofs.lemmas.List.{get_or-drop}
-use Rattle.std.proofs.lemmas.Bool.{cases_eq}
+use Rattle.std.proofs.lemmas.List.{get_or-drop, get_or_past}
+use Rattle.std.proofs.lemmas.Bool.{cases_lt, cases_eq}
 use Rattle.roster.specs.LaidDown.{two_bytes, party_text}
-
-joined_length : (xs : List ℕ) → length (flat_map two_bytes xs) ≡ 2 * length xs
-joined_length [] = refl
-joined_length (x ∷ xs) = let h = joined_length xs in omega arith
-
-joined_high : (xs : List ℕ) (k : ℕ) → get_or (flat_map two_bytes xs) (2 * k) 0 ≡ get_or xs k 0 / 256
-joined_high [] k = refl
-joined_high (x ∷ xs) zero = refl
-joined_high (x ∷ xs) (suc k) =
-    let e : 2 * suc k ≡ suc (suc (2 * k)) = omega arith in
-    ap (λ (m : ℕ). get_or (flat_map two_bytes (x ∷ xs)) m 0) e ∙ joined_high xs k
-
-joined_low : (xs : List ℕ) (k : ℕ) → get_or (flat_map two_bytes xs) (2 * k + 1) 0 ≡ get_or xs k 0 % 256
-joined_low [] k = refl
-joined_low (x ∷ xs) zero = refl
-joined_low (x ∷ xs) (suc k) =
-    let e : 2 * suc k + 1 ≡ suc (suc (2 * k + 1)) = omega arith in
-    ap (λ (m : ℕ). get_or (flat_map two_bytes (x ∷ xs)) m 0) e ∙ joined_low xs k
+use Rattle.roster.proofs.Pieces.{pieces_length, piece_at}
 
 module _ (kind i : ℕ) (xs : List ℕ) where
+  joined_length : length (flat_map two_bytes xs) ≡ 2 * length xs
+  joined_length = pieces_length two_bytes 2 (λ x. refl) xs
+
   pub party_length : length (party_text kind i xs) ≡ 6 + 2 * length xs
-  party_length = let h = joined_length xs in omega arith
+  party_length = let h = joined_length in omega arith
+
+  -- one of the two bytes of an entry; both are zero behind the list
+  entry_at : (k j m : ℕ) → 2 * k + j ≡ m → j < 2 → get_or (two_bytes 0) j 0 ≡ 0 → get_or (party_text kind i xs) (6 + m) 0 ≡ get_or (two_bytes (get_or xs k 0)) j 0
+  entry_at k j m e h none =
+      sym (get_or-drop 6 (party_text kind i xs) m 0)
+      ∙ rw (← e)
+      (⊎_elim
+      (λ l. piece_at two_bytes 2 (λ x. refl) xs k j 0 l h)
+      (λ p.
+      let long = joined_length in
+      let past = get_or_past xs k 0 p in
+      get_or_past (flat_map two_bytes xs) (2 * k + j) 0 (omega arith) ∙ sym none ∙ ap (λ (v : ℕ). get_or (two_bytes v) j 0) (sym past))
+      (cases_lt k (length xs)))
 
   pub entry_high : (k : ℕ) → get_or (party_text kind i xs) (6 + 2 * k) 0 ≡ get_or xs k 0 / 256
-  entry_high k = sym (get_or-drop 6 (party_text kind i xs) (2 * k) 0) ∙ joined_high xs k
+  entry_high k = entry_at k 0 (2 * k) (omega arith) (omega arith) refl
 
   pub entry_low : (k : ℕ) → get_or (party_text kind i xs) (6 + 2 * k + 1) 0 ≡ get_or xs k 0 % 256
   entry_low k =
       let e : 6 + 2 * k + 1 ≡ 6 + (2 * k + 1) = omega arith in
-      ap (λ (m : ℕ). get_or (party_text kind i xs) m 0) e
-      ∙ sym (get_or-drop 6 (party_text kind i xs) (2 * k + 1) 0) ∙ joined_low xs k
+      ap (λ (m : ℕ). get_or (party_text kind i xs) m 0) e ∙ entry_at k 1 (2 * k + 1) refl (omega arith) refl
 
 -- two bytes at a time, from byte 6 on
 pub entry_bytes : (P : ℕ → Type 0) → ((k : ℕ) → k < 251 → P (6 + 2 * k)) → ((k : ℕ) → k < 251 → P (6 + 2 * k + 1)) → (i : ℕ) → 6 ≤ i → i < 508 → P i

@@ -79,11 +79,14 @@ return_fault back b i xs k =
     unless (nat_lt (place (slice_index_or back (slice_index xs k) []) i) (length (slice_index_or back (slice_index xs k) [])))
     (EntryUnreturned b (6 + 2 * k))
 
--- the entries of one side, party by party and in turn; its blocks begin at a number
+-- the entries of one party in turn; the blocks of its side begin at a number
+abbrev pub party_returns_fault : List (List ℕ) → List (List ℕ) → ℕ → ℕ → Option Fault
+party_returns_fault own back first i =
+    earliest (length (slice_index_or own i [])) (return_fault back (first + i) i (slice_index_or own i []))
+
+-- the entries of one side, party by party
 abbrev pub returns_fault : List (List ℕ) → List (List ℕ) → ℕ → Option Fault
-returns_fault own back first =
-    earliest (length own)
-    (λ i. earliest (length (slice_index_or own i [])) (return_fault back (first + i) i (slice_index_or own i [])))
+returns_fault own back first = earliest (length own) (party_returns_fault own back first)
 
 -- the whole roster
 abbrev pub first_fault : List ℕ → Option Fault

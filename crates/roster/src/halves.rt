@@ -1,12 +1,12 @@
 // The lists of one side.
-ghost use Rattle.std.specs.Prelude.{◌≡◌, ◌<◌, ◌≤◌, [], ◌∷◌, ◌++◌, length, slice_index_or};
+ghost use Rattle.std.specs.Prelude.{◌≡◌, ◌<◌, ◌≤◌, [], ◌∷◌, ◌++◌, length, slice_index_or, IfNone, IfSome};
 ghost use Rattle.lists.specs.Rankings.{entry_at, place_of};
 
 use crate::rows::{LIMIT, Row};
 use arrayvec::ArrayVec;
 use std::marker::Model;
 
-#[derive(Drop)]
+#[derive(Default, Drop)]
 pub(crate) struct Half {
     rows: ArrayVec<Row, LIMIT>,
 }
@@ -19,17 +19,6 @@ impl Model for Half {
     ghost view = { λ h. h.rows.items };
 }
 
-impl Default for Half {
-    ghost is_default = { λ h. h ≡ [] };
-
-    // A side without parties.
-    fn default() -> Half {
-        Half {
-            rows: ArrayVec::new(),
-        }
-    }
-}
-
 impl Half {
     // The lists in the order of their parties.
     pub(crate) fn rows(&self) -> &[Row]
@@ -37,6 +26,14 @@ impl Half {
         ensures few { length self.now ≤ 250 }
     {
         self.rows.as_slice()
+    }
+
+    // The list of a party, if the side has that party.
+    fn row(&self, party: u16) -> Option<&Row>
+        ensures none { IfNone result (slice_index_or self.now party [] ≡ []) }
+        ensures some { IfSome result (λ row. row.now ≡ slice_index_or self.now party []) }
+    {
+        self.rows().get(usize::from(party))
     }
 
     // How many parties the side has.
@@ -50,21 +47,21 @@ impl Half {
     pub(crate) fn length(&self, party: u16) -> u16
         ensures { result ≡ length (slice_index_or self.now party []) }
     {
-        self.rows().get(usize::from(party)).map_or(0, Row::len)
+        self.row(party).map_or(0, Row::len)
     }
 
     // Whom a party names at a place.
     pub(crate) fn entry(&self, party: u16, place: u16) -> Option<u16>
         ensures { result ≡ entry_at (slice_index_or self.now party []) place }
     {
-        self.rows().get(usize::from(party))?.entry(place)
+        self.row(party)?.entry(place)
     }
 
     // At which place a party names another.
     pub(crate) fn place(&self, party: u16, named: u16) -> Option<u16>
         ensures { result ≡ place_of (slice_index_or self.now party []) named }
     {
-        self.rows().get(usize::from(party))?.place(named)
+        self.row(party)?.place(named)
     }
 
     // The list of one more party.

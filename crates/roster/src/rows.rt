@@ -8,9 +8,10 @@ use std::marker::Model;
 // How many parties a side may have.
 pub(crate) const LIMIT: usize = 250;
 
-#[derive(Drop)]
+#[derive(Default, Drop)]
 pub(crate) struct Row {
     entries: ArrayVec<u16, LIMIT>,
+    // By the number of a party, its place in the list.
     places: [Option<u16>; LIMIT],
 }
 
@@ -23,18 +24,6 @@ impl Model for Row {
     ghost view = { λ r. r.entries.items };
 
     ghost invariant = { λ r. Placed r.entries.items r.places };
-}
-
-impl Default for Row {
-    ghost is_default = { λ r. r ≡ [] };
-
-    // A list that names nobody.
-    fn default() -> Row {
-        Row {
-            entries: ArrayVec::new(),
-            places: [None; LIMIT],
-        }
-    }
 }
 
 impl Row {

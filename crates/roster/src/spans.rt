@@ -29,7 +29,7 @@ pub(crate) struct Span<'a> {
     ghost within: { 512 * (first + count) ≤ length roster.now },
     ghost few: { count ≤ 250 },
     ghost few_others: { others ≤ 250 },
-    ghost few_blocks: { first ≤ 251 },
+    ghost low: { first ≤ 251 },
 }
 
 // Byte 0 of each block of a side.

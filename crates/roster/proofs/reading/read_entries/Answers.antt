@@ -7,7 +7,7 @@ use Rattle.roster.proofs.Shown.{entries_length}
 use Rattle.roster.proofs.reading.read_entries.Goals as goal
 
 pub loop-init : goal.loop-init
-loop-init c = record { none = earliest_none _; long = ap length c.default-row.ensures; read = c.default-row.ensures }
+loop-init c = let none = sym c.default-row.ensures.1 ∙ c.default-row.ensures.2.0 in record { none = earliest_none _; long = ap length none; read = none }
 
 pub returns-in_err-read_entry-clause-fault : goal.returns-in_err-read_entry-clause-fault
 returns-in_err-read_entry-clause-fault c =
