@@ -72,6 +72,7 @@ impl Block<'_> {
     {
         let mut sum = 0;
         for (at, byte) in self.bytes(0..CHECKED).iter().enumerate() {
+            // A place below 508 fits; a conversion that can fail would bring an error that cannot come.
             sum += (at as u32 + 1) * u32::from(*byte);
         }
         sum
@@ -122,6 +123,7 @@ impl Block<'_> {
         let from = part.start;
         match first_nonzero(self.bytes(part)) {
             None => Ok(()),
+            // A place in a block fits 16 bits.
             Some(k) => Err(self.wrong_field(from + k as u16)),
         }
     }

@@ -36,7 +36,7 @@ impl Half {
         self.rows().get(usize::from(party))
     }
 
-    // How many parties the side has.
+    // How many parties the side has: at most 250, which fits 16 bits.
     pub(crate) fn count(&self) -> u16
         ensures { result ≡ length self.now }
     {

@@ -11,7 +11,7 @@ pub(crate) const LIMIT: usize = 250;
 #[derive(Default, Drop)]
 pub(crate) struct Row {
     entries: ArrayVec<u16, LIMIT>,
-    // By the number of a party, its place in the list.
+    // By the number of a party, its place in the list; a table and no map, since the reader allocates nothing.
     places: [Option<u16>; LIMIT],
 }
 
@@ -35,7 +35,7 @@ impl Row {
         self.entries.as_slice()
     }
 
-    // How many parties the list names.
+    // How many parties the list names: at most 250, which fits 16 bits.
     pub(crate) fn len(&self) -> u16
         ensures { result ≡ length self.now }
     {
