@@ -9,9 +9,9 @@ pub mod Granted
 pub mod Holding
 pub mod Partners
 pub mod Passing
+pub mod RoleLists
 pub mod SettleCalls
 pub mod Settling
 pub mod Steps
 pub mod Totals
 pub mod Turns
-pub mod TwoLevelAnswers

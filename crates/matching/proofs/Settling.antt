@@ -9,12 +9,13 @@ use Rattle.matching.specs.Levels.{LevelRules, level_of, level_held, favours}
 use Rattle.matching.specs.Plans.{With, Listed, PlanOn, partner_of}
 use Rattle.matching.specs.Settled.{real_site_of, either_site, site_by_copies, level_by_copies, sites_in, levels_in, settled_plan_of, settled_levels_of, SettledPlanIsDominant}
 use Rattle.matching.specs.Stability.{Rather, Stable}
-use Rattle.matching.specs.TwoLevels.{lower, upper, stand_in_of, lower_list, upper_list, split_list, own_list, fits_two_levels, crew_total, two_levels_of}
+use Rattle.matching.specs.TwoLevels.{lower, upper, stand_in_of, lower_list, upper_list, own_list, fits_two_levels, crew_total, two_levels_of}
 use Rattle.matching.specs.Votes.{likes}
 use Rattle.matching.specs.Evidence.Halves.{lower_not_upper}
-use Rattle.matching.specs.Evidence.TwoLevels.{Sized, sized, by_crew, size_crews, ranks_crew, ranks_site, crew_lower, crew_upper, site_split, site_own, place_split_lower, place_split_upper, place_own_lower, place_own_upper, length_lower, place_lower, place_lower_own, place_upper, place_upper_own, two_levels_lawful}
+use Rattle.matching.specs.Evidence.TwoLevels.{Sized, sized, by_crew, size_crews, place_split_lower, place_split_upper, place_own_lower, place_own_upper, length_lower, place_lower, place_lower_own, place_upper, place_upper_own, two_levels_lawful}
 use Rattle.matching.specs.Evidence.Joins.{each_join, each_one, each_named}
 use Rattle.matching.proofs.Partners.{naming, within_plan, partner_with, with_partner}
+use Rattle.matching.proofs.RoleLists.{ranks_lower, ranks_upper, ranks_real, ranks_own}
 use Rattle.matching.proofs.Deferral.{deferred_best}
 use Rattle.matching.proofs.Dominance.{levelled_dominant}
 use Rattle.matching.proofs.Steps.{named}
@@ -42,18 +43,6 @@ module _ {L : Rankings} (lawful : Lawful L) (few : fits_two_levels L ≡ true) w
   z : Sized L
   z = sized L few
 
-  ranks_lower : (i : ℕ) → i < size L Crew → ranks L₂ Crew (lower i) ≡ lower_list L i
-  ranks_lower i h = ranks_crew L (lower i) (omega (arith, z.crews_are)) ∙ crew_lower L i
-
-  ranks_upper : (i : ℕ) → i < size L Crew → ranks L₂ Crew (upper i) ≡ upper_list L i
-  ranks_upper i h = ranks_crew L (upper i) (omega (arith, z.crews_are)) ∙ crew_upper L i
-
-  ranks_real : (j : ℕ) → j < size L Site → ranks L₂ Site j ≡ split_list (ranks L Site j)
-  ranks_real j h = ranks_site L j (omega (arith, z.sites_are)) ∙ site_split L j h
-
-  ranks_own : (i : ℕ) → i < size L Crew → ranks L₂ Site (stand_in_of L i) ≡ own_list i
-  ranks_own i h = ranks_site L (stand_in_of L i) (omega (arith, z.sites_are)) ∙ site_own L i
-
   named_real : (i j : ℕ) → Names L Crew i j → j < size L Site
   named_real i j n = naming L Site j i (lawful.returned Crew i j n)
 
@@ -62,57 +51,57 @@ module _ {L : Rankings} (lawful : Lawful L) (few : fits_two_levels L ≡ true) w
   both_list x y n = (n, (two_levels_lawful lawful).returned Crew x y n)
 
   listed_copy : (a i j : ℕ) → Names L Crew i j → Listed L₂ (copy a i) j
-  listed_copy zero i j n = both_list (lower i) j (subst (λ xs. place xs j < length xs) (sym (ranks_lower i (naming L Crew i j n)))
+  listed_copy zero i j n = both_list (lower i) j (subst (λ xs. place xs j < length xs) (sym (ranks_lower L z i (naming L Crew i j n)))
       (let p = place_lower lawful i j n in let l = length_lower lawful i in omega arith))
-  listed_copy (suc a) i j n = both_list (upper i) j (subst (λ xs. place xs j < length xs) (sym (ranks_upper i (naming L Crew i j n)))
+  listed_copy (suc a) i j n = both_list (upper i) j (subst (λ xs. place xs j < length xs) (sym (ranks_upper L z i (naming L Crew i j n)))
       (let real = named_real i j n in let p = place_upper lawful i j (λ e. omega arith) in omega arith))
 
   listed_own : (a i : ℕ) → i < size L Crew → Listed L₂ (copy a i) (stand_in_of L i)
-  listed_own zero i h = both_list (lower i) (stand_in_of L i) (subst (λ xs. place xs (stand_in_of L i) < length xs) (sym (ranks_lower i h))
+  listed_own zero i h = both_list (lower i) (stand_in_of L i) (subst (λ xs. place xs (stand_in_of L i) < length xs) (sym (ranks_lower L z i h))
       (let p = place_lower_own lawful i in let l = length_lower lawful i in omega arith))
-  listed_own (suc a) i h = both_list (upper i) (stand_in_of L i) (subst (λ xs. place xs (stand_in_of L i) < length xs) (sym (ranks_upper i h))
+  listed_own (suc a) i h = both_list (upper i) (stand_in_of L i) (subst (λ xs. place xs (stand_in_of L i) < length xs) (sym (ranks_upper L z i h))
       (let p = place_upper_own lawful i in omega arith))
 
   -- whom a crew of the two-level lists can have: a site that the crew names, or the stand-in
   names_copy : (a i y : ℕ) → i < size L Crew → Names L₂ Crew (copy a i) y → (y ≡ stand_in_of L i) ⊎ Names L Crew i y
   names_copy zero i y h n =
-      let m = subst (λ xs. place xs y < length xs) (ranks_lower i h) n in
+      let m = subst (λ xs. place xs y < length xs) (ranks_lower L z i h) n in
       each_named (λ v. (v ≡ stand_in_of L i) ⊎ Names L Crew i v) (lower_list L i)
       (each_join (λ v. (v ≡ stand_in_of L i) ⊎ Names L Crew i v) (ranks L Crew i) (stand_in_of L i ∷ []) (λ k l. inr (named L lawful Crew i k l)) (each_one (λ v. (v ≡ stand_in_of L i) ⊎ Names L Crew i v) (stand_in_of L i) (inl refl))) y m
   names_copy (suc a) i y h n =
-      let m = subst (λ xs. place xs y < length xs) (ranks_upper i h) n in
+      let m = subst (λ xs. place xs y < length xs) (ranks_upper L z i h) n in
       each_named (λ v. (v ≡ stand_in_of L i) ⊎ Names L Crew i v) (upper_list L i)
       (each_join (λ v. (v ≡ stand_in_of L i) ⊎ Names L Crew i v) (stand_in_of L i ∷ []) (ranks L Crew i) (each_one (λ v. (v ≡ stand_in_of L i) ⊎ Names L Crew i v) (stand_in_of L i) (inl refl)) (λ k l. inr (named L lawful Crew i k l))) y m
 
   -- a crew ranks the sites that it names in the same order at both levels
   crew_order : (a i j k : ℕ) → Names L Crew i j → Names L Crew i k → place (ranks L Crew i) j < place (ranks L Crew i) k →
       place (ranks L₂ Crew (copy a i)) j < place (ranks L₂ Crew (copy a i)) k
-  crew_order zero i j k nj nk h = subst (λ xs. place xs j < place xs k) (sym (ranks_lower i (naming L Crew i j nj)))
+  crew_order zero i j k nj nk h = subst (λ xs. place xs j < place xs k) (sym (ranks_lower L z i (naming L Crew i j nj)))
       (let p = place_lower lawful i j nj in let q = place_lower lawful i k nk in omega arith)
-  crew_order (suc a) i j k nj nk h = subst (λ xs. place xs j < place xs k) (sym (ranks_upper i (naming L Crew i j nj)))
+  crew_order (suc a) i j k nj nk h = subst (λ xs. place xs j < place xs k) (sym (ranks_upper L z i (naming L Crew i j nj)))
       (let rj = named_real i j nj in let rk = named_real i k nk in
       let p = place_upper lawful i j (λ e. omega arith) in let q = place_upper lawful i k (λ e. omega arith) in omega arith)
 
   -- a lower crew ranks its stand-in last
   own_last : (i j : ℕ) → Names L Crew i j → place (ranks L₂ Crew (lower i)) j < place (ranks L₂ Crew (lower i)) (stand_in_of L i)
-  own_last i j n = subst (λ xs. place xs j < place xs (stand_in_of L i)) (sym (ranks_lower i (naming L Crew i j n)))
+  own_last i j n = subst (λ xs. place xs j < place xs (stand_in_of L i)) (sym (ranks_lower L z i (naming L Crew i j n)))
       (let p = place_lower lawful i j n in let q = place_lower_own lawful i in omega arith)
 
   -- an upper crew ranks its stand-in first
   own_first : (i y : ℕ) → i < size L Crew → (stand_in_of L i ≡ y → ⊥) → place (ranks L₂ Crew (upper i)) (stand_in_of L i) < place (ranks L₂ Crew (upper i)) y
-  own_first i y h n = subst (λ xs. place xs (stand_in_of L i) < place xs y) (sym (ranks_upper i h))
+  own_first i y h n = subst (λ xs. place xs (stand_in_of L i) < place xs y) (sym (ranks_upper L z i h))
       (let p = place_upper_own lawful i in let q = place_upper lawful i y n in omega arith)
 
   -- a site ranks upper crews before lower ones, and those of a level in its own order
   upper_before : (i k j : ℕ) → Names L Site j i → place (ranks L₂ Site j) (upper i) < place (ranks L₂ Site j) (lower k)
-  upper_before i k j n = subst (λ xs. place xs (upper i) < place xs (lower k)) (sym (ranks_real j (naming L Site j i n)))
+  upper_before i k j n = subst (λ xs. place xs (upper i) < place xs (lower k)) (sym (ranks_real L z j (naming L Site j i n)))
       (let p = place_split_upper (ranks L Site j) i n in let q = place_split_lower (ranks L Site j) k in omega arith)
 
   site_order : (a i k j : ℕ) → Names L Site j i → Names L Site j k → place (ranks L Site j) i < place (ranks L Site j) k →
       place (ranks L₂ Site j) (copy a i) < place (ranks L₂ Site j) (copy a k)
-  site_order zero i k j ni nk h = subst (λ xs. place xs (lower i) < place xs (lower k)) (sym (ranks_real j (naming L Site j i ni)))
+  site_order zero i k j ni nk h = subst (λ xs. place xs (lower i) < place xs (lower k)) (sym (ranks_real L z j (naming L Site j i ni)))
       (let p = place_split_lower (ranks L Site j) i in let q = place_split_lower (ranks L Site j) k in omega arith)
-  site_order (suc a) i k j ni nk h = subst (λ xs. place xs (upper i) < place xs (upper k)) (sym (ranks_real j (naming L Site j i ni)))
+  site_order (suc a) i k j ni nk h = subst (λ xs. place xs (upper i) < place xs (upper k)) (sym (ranks_real L z j (naming L Site j i ni)))
       (let p = place_split_upper (ranks L Site j) i ni in let q = place_split_upper (ranks L Site j) k nk in omega arith)
 
   -- a stand-in names only its own two crews, the lower one first
@@ -121,10 +110,10 @@ module _ {L : Rankings} (lawful : Lawful L) (few : fits_two_levels L ≡ true) w
       each_named (λ v. (v ≡ lower i) ⊎ (v ≡ upper i)) (own_list i)
       (each_join (λ v. (v ≡ lower i) ⊎ (v ≡ upper i)) (lower i ∷ []) (upper i ∷ [])
       (each_one (λ v. (v ≡ lower i) ⊎ (v ≡ upper i)) (lower i) (inl refl)) (each_one (λ v. (v ≡ lower i) ⊎ (v ≡ upper i)) (upper i) (inr refl))) x
-      (subst (λ xs. place xs x < length xs) (ranks_own i h) n)
+      (subst (λ xs. place xs x < length xs) (ranks_own L z i h) n)
 
   own_order : (i : ℕ) → i < size L Crew → place (ranks L₂ Site (stand_in_of L i)) (lower i) < place (ranks L₂ Site (stand_in_of L i)) (upper i)
-  own_order i h = subst (λ xs. place xs (lower i) < place xs (upper i)) (sym (ranks_own i h)) (omega (arith, place_own_lower i, place_own_upper i))
+  own_order i h = subst (λ xs. place xs (lower i) < place xs (upper i)) (sym (ranks_own L z i h)) (omega (arith, place_own_lower i, place_own_upper i))
 
   -- what a stable plan of the two-level lists gives the two crews of one crew
   module _ (T : List ℕ) (stable : Stable L₂ T) where

@@ -2,8 +2,10 @@
 #![tactic(auto)]
 
 pub mod checks;
+mod copies;
 mod limits;
 mod proposals;
+mod roles;
 pub mod settled;
 pub mod stable;
 pub mod two_levels;
