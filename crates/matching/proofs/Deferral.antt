@@ -5,11 +5,10 @@ use Rattle.std.proofs.lemmas.Bool.{cond_both, ltb-true, ltb-false}
 use Rattle.lists.specs.Rankings.{Rankings, Lawful, ranks, place, size}
 use Rattle.lists.specs.declared.parties.Side.TheVariants.{Crew, Site}
 use Rattle.matching.specs.Acceptance.{AskingIn, Asks, Turned, unrefused, chosen}
-use Rattle.matching.specs.Answers.{held_by, held_at}
 use Rattle.matching.specs.Deferred.{Progress, unasked, asks, refuses, answered, going_on, progress_of_chain, progress_of_all, entry_count, crew_best_of, DeferredAcceptanceTellsTheCrewBest}
 use Rattle.matching.specs.Stability.{TheCrewBest}
 use Rattle.matching.specs.StableCalls.{Found}
-use Rattle.matching.proofs.Finish.{crew_best_in_the_end, the_crew_best}
+use Rattle.matching.proofs.Finish.{best_in_the_end}
 use Rattle.matching.proofs.Turns.{turn_ends, turn_answered, begins, untouched}
 use Rattle.matching.proofs.Totals.{total_le}
 
@@ -47,13 +46,12 @@ pub deferred_best : (L : Rankings) → Lawful L → TheCrewBest L (crew_best_of 
 deferred_best L lawful =
     let p = progress_of_all L (size L Crew) in
     let quiet = all_quiet L lawful (size L Crew) (omega arith) in
-    the_crew_best L (crew_best_of L)
-    (crew_best_in_the_end L lawful (λ i. get_or p.refusals i 0) (λ j. held_by (get_or p.holds j None)) (λ j. held_at (get_or p.holds j None)) (size L Crew) (crew_best_of L) quiet.state refl
+    best_in_the_end L lawful p.refusals p.holds (crew_best_of L) quiet
     (record {
       whole = length-map-range_with_len (λ i. chosen (ranks L Crew i) (get_or p.refusals i 0)) 0 (size L Crew);
       each = λ i h. get_or-map-range_with_len (λ i. chosen (ranks L Crew i) (get_or p.refusals i 0)) 0 (size L Crew) i i 0
           (let long = length-map-range_with_len (λ i. chosen (ranks L Crew i) (get_or p.refusals i 0)) 0 (size L Crew) in omega arith) (omega arith);
-    }))
+    })
 
 -- whatever is crew-best is what deferred acceptance finds
 pub found : (L : Rankings) → Lawful L → (P : List ℕ) → TheCrewBest L P → Found L P

@@ -1,5 +1,5 @@
 -- When nobody is asking, what the crews have is the crew-best stable plan, and there is only one.
-use Rattle.std.proofs.Common.{◌≡◌, ℕ, zero, suc, ◌<◌, ◌≤◌, ltb, List, length, get_or, sym, refl, ap, ◌∙◌, subst, ⊎_elim, arith}
+use Rattle.std.proofs.Common.{◌≡◌, ℕ, zero, suc, ◌<◌, ◌≤◌, ltb, List, length, get_or, None, Option, sym, refl, ap, ◌∙◌, subst, ⊎_elim, arith}
 use Rattle.std.proofs.lemmas.List.{ext_get_or}
 use Rattle.std.proofs.lemmas.Bool.{cases_lt, lt-ltb, le-ltb, cond-true, cond-false}
 use Rattle.lists.specs.Rankings.{Rankings, Lawful, Names, ranks, place, size}
@@ -7,7 +7,9 @@ use Rattle.lists.specs.Evidence.Places.{get_or_place, place_first}
 use Rattle.lists.specs.declared.parties.Side.TheVariants.{Crew, Site}
 use Rattle.matching.specs.Plans.{With, Listed, PlanOn}
 use Rattle.matching.specs.Stability.{Blocks, Stable, CrewBest, TheCrewBest}
-use Rattle.matching.specs.Acceptance.{Asking, Outcome, chosen}
+use Rattle.matching.specs.Acceptance.{Asking, AskingIn, Outcome, chosen}
+use Rattle.matching.specs.Answers.{held_by, held_at}
+use Rattle.matching.specs.declared.proposals.Hold.{Hold}
 use Rattle.matching.proofs.Partners.{within_plan, naming}
 use Rattle.matching.proofs.Steps.{listed_entry}
 
@@ -85,7 +87,7 @@ module _ (L : Rankings) (lawful : Lawful L) (refusals holder rank : ℕ → ℕ)
       (get_or xs (refusals i) 0, entry_had i (naming_begun i j named) m, omega arith))
       (cases_lt (place xs j) (refusals i))
 
-  pub crew_best_in_the_end : CrewBest L P
+  crew_best_in_the_end : CrewBest L P
   crew_best_in_the_end = record { stable = record { plan = ends_plan; steady = ends_steady }; best = ends_best }
 
 -- what one crew-best plan gives a crew, the other gives too
@@ -102,7 +104,7 @@ shared L P Q p q i j w =
     let is : mine.0 ≡ j = sym (get_or_place xs mine.0 listed) ∙ ap (λ v. get_or xs v 0) level ∙ get_or_place xs j named in
     subst (λ v. With P Crew i v) is mine.1
 
-pub one_crew_best : (L : Rankings) (P Q : List ℕ) → CrewBest L P → CrewBest L Q → P ≡ Q
+one_crew_best : (L : Rankings) (P Q : List ℕ) → CrewBest L P → CrewBest L Q → P ≡ Q
 one_crew_best L P Q p q = ext_get_or 0 P Q (p.stable.plan.whole ∙ sym q.stable.plan.whole) (λ i _. same i (get_or P i 0) (get_or Q i 0) refl refl)
   where
     none : (i a : ℕ) → get_or P i 0 ≡ a → get_or Q i 0 ≡ zero → a ≡ zero
@@ -113,5 +115,11 @@ one_crew_best L P Q p q = ext_get_or 0 P Q (p.stable.plan.whole ∙ sym q.stable
     same i a zero e f = none i a e f
     same i a (suc b) e f = sym e ∙ shared L P Q p q i b f
 
-pub the_crew_best : (L : Rankings) (P : List ℕ) → CrewBest L P → TheCrewBest L P
+the_crew_best : (L : Rankings) (P : List ℕ) → CrewBest L P → TheCrewBest L P
 the_crew_best L P p = record { crew_best = p; alone = λ Q q. one_crew_best L Q P q p }
+
+-- the same of the state as the program holds it, when all have begun and nobody is asking
+pub best_in_the_end : (L : Rankings) → Lawful L → (refusals : List ℕ) (holds : List (Option Hold)) (P : List ℕ) →
+    AskingIn L refusals holds (size L Crew) (size L Crew) → Outcome L (λ i. get_or refusals i 0) P → TheCrewBest L P
+best_in_the_end L lawful refusals holds P quiet out =
+    the_crew_best L P (crew_best_in_the_end L lawful (λ i. get_or refusals i 0) (λ j. held_by (get_or holds j None)) (λ j. held_at (get_or holds j None)) (size L Crew) P quiet.state refl out)

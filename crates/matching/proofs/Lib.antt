@@ -3,12 +3,13 @@ pub mod Balances
 pub mod Ballots
 pub mod Deferral
 pub mod Dominance
-pub mod Filling
+pub mod Few
 pub mod Finish
 pub mod Granted
 pub mod Holding
 pub mod Partners
 pub mod Passing
+pub mod ReadOff
 pub mod RoleLists
 pub mod SettleCalls
 pub mod Settling

@@ -1,13 +1,14 @@
 -- The plan read off a stable plan of the two-level lists is a plan on the lists and keeps the level rules.
-use Rattle.std.proofs.Common.{◌≡◌, ℕ, zero, suc, ◌<◌, ◌≤◌, true, false, eqb, leb, ◌⊎◌, List, [], ◌∷◌, length, get_or, sym, refl, ap, ◌∙◌, subst, inl, inr, ⊎_elim, arith}
+use Rattle.std.proofs.Common.{◌≡◌, ℕ, zero, suc, ◌<◌, ◌≤◌, true, false, eqb, ltb, ◌⊎◌, List, [], ◌∷◌, length, get_or, Some, None, sym, refl, ap, ◌∙◌, subst, inl, inr, ⊎_elim, arith}
+use Rattle.std.specs.Option.{option_or}
 use Rattle.std.proofs.lemmas.List.FromFn.{length-map-range_with_len, get_or-map-range_with_len}
-use Rattle.std.proofs.lemmas.Bool.{cases_Bool, cases_eq, cond-true, cond-false, eq-eqb, ne_eqb, le-leb, lt-leb, ltb-true}
+use Rattle.std.proofs.lemmas.Bool.{cases_Bool, cases_eq, cond-true, cond-false, eq-eqb, ne_eqb, lt-ltb, le-ltb, ltb-true}
 use Rattle.lists.specs.Rankings.{Rankings, Lawful, Names, ranks, place, size}
 use Rattle.lists.specs.declared.parties.Side.TheVariants.{Crew, Site}
 use Rattle.matching.specs.Deferred.{crew_best_of}
 use Rattle.matching.specs.Levels.{LevelRules, level_of, level_held, favours}
-use Rattle.matching.specs.Plans.{With, Listed, PlanOn, partner_of}
-use Rattle.matching.specs.Settled.{real_site_of, either_site, site_by_copies, level_by_copies, sites_in, levels_in, settled_plan_of, settled_levels_of, SettledPlanIsDominant}
+use Rattle.matching.specs.Plans.{With, Listed, PlanOn, partner_of, number_written, site_written}
+use Rattle.matching.specs.Settled.{real_site_of, partner_in, site_by_copies, level_by_copies, sites_in, levels_in, settled_plan_of, settled_levels_of, SettledPlanIsDominant}
 use Rattle.matching.specs.Stability.{Rather, Stable}
 use Rattle.matching.specs.TwoLevels.{lower, upper, stand_in_of, lower_list, upper_list, own_list, fits_two_levels, crew_total, two_levels_of}
 use Rattle.matching.specs.Votes.{likes}
@@ -157,18 +158,22 @@ module _ {L : Rankings} (lawful : Lawful L) (few : fits_two_levels L ≡ true) w
       pub names : (j : ℕ) → site_by_copies L T i ≡ suc j → Names L Crew i j
       pub placed : a ≡ 0 → site_by_copies L T i ≡ 0 → ⊥
 
-    real_site_is : (j : ℕ) → j < size L Site → real_site_of L (suc j) ≡ suc j
-    real_site_is j h = cond-true (leb (suc j) (size L Site)) (suc j) 0 (le-leb (suc j) (size L Site) h)
+    real_site_is : (j : ℕ) → j < size L Site → real_site_of L (Some j) ≡ Some j
+    real_site_is j h = cond-true (ltb j (size L Site)) (Some j) None (lt-ltb j (size L Site) h)
 
-    no_site : (i : ℕ) → real_site_of L (suc (stand_in_of L i)) ≡ 0
-    no_site i = cond-false (leb (suc (stand_in_of L i)) (size L Site)) (suc (stand_in_of L i)) 0 (lt-leb (suc (stand_in_of L i)) (size L Site) (omega arith))
+    no_site : (i : ℕ) → real_site_of L (Some (stand_in_of L i)) ≡ None
+    no_site i = cond-false (ltb (stand_in_of L i) (size L Site)) (Some (stand_in_of L i)) None (le-ltb (stand_in_of L i) (size L Site) (omega arith))
+
+    -- a number of the plan, with nobody in the place of a stand-in
+    abbrev kept_number : ℕ → ℕ
+    kept_number p = number_written (real_site_of L (site_written p))
 
     read_lower : (i : ℕ) → i < size L Crew → With T Crew (upper i) (stand_in_of L i) → Read i 0
     read_lower i h up =
         let down = lower_placed i h up in
         let real = real_site_is down.0 (named_real i down.0 down.2) in
-        let low : real_site_of L (get_or T (lower i) 0) ≡ suc down.0 = ap (real_site_of L) down.1 ∙ real in
-        let site : site_by_copies L T i ≡ suc down.0 = ap (λ p. either_site p (real_site_of L (get_or T (upper i) 0))) low in
+        let low : real_site_of L (partner_in T (lower i)) ≡ Some down.0 = ap (λ p. real_site_of L (site_written p)) down.1 ∙ real in
+        let site : site_by_copies L T i ≡ suc down.0 = ap (λ o. number_written (option_or o (real_site_of L (partner_in T (upper i))))) low in
         record {
           level = cond-true (eqb (get_or T (upper i) 0) (suc (stand_in_of L i))) 0 1 (eq-eqb (get_or T (upper i) 0) (suc (stand_in_of L i)) up);
           binary = omega arith;
@@ -182,8 +187,8 @@ module _ {L : Rankings} (lawful : Lawful L) (few : fits_two_levels L ≡ true) w
     read_upper : (i : ℕ) → i < size L Crew → (With T Crew (upper i) (stand_in_of L i) → ⊥) → Read i 1
     read_upper i h not-upper =
         let down = own_taken i h not-upper in
-        let low : real_site_of L (get_or T (lower i) 0) ≡ 0 = ap (real_site_of L) down ∙ no_site i in
-        let site : site_by_copies L T i ≡ real_site_of L (get_or T (upper i) 0) = ap (λ p. either_site p (real_site_of L (get_or T (upper i) 0))) low in
+        let low : real_site_of L (partner_in T (lower i)) ≡ None = ap (λ p. real_site_of L (site_written p)) down ∙ no_site i in
+        let site : site_by_copies L T i ≡ kept_number (get_or T (upper i) 0) = ap (λ o. number_written (option_or o (real_site_of L (partner_in T (upper i))))) low in
         let is = upper_real (get_or T (upper i) 0) refl in
         record {
           level = cond-false (eqb (get_or T (upper i) 0) (suc (stand_in_of L i))) 0 1 (ne_eqb (get_or T (upper i) 0) (suc (stand_in_of L i)) not-upper);
@@ -195,11 +200,11 @@ module _ {L : Rankings} (lawful : Lawful L) (few : fits_two_levels L ≡ true) w
           placed = λ e. absurd (omega arith);
         }
       where
-        upper_real : (p : ℕ) → get_or T (upper i) 0 ≡ p → (real_site_of L (get_or T (upper i) 0) ≡ get_or T (upper i) 0) × ((j : ℕ) → get_or T (upper i) 0 ≡ suc j → Names L Crew i j)
-        upper_real zero e = (ap (real_site_of L) e ∙ cond-true (leb 0 (size L Site)) 0 0 (le-leb 0 (size L Site) (omega arith)) ∙ sym e, (λ j f. absurd (omega arith)))
+        upper_real : (p : ℕ) → get_or T (upper i) 0 ≡ p → (kept_number (get_or T (upper i) 0) ≡ get_or T (upper i) 0) × ((j : ℕ) → get_or T (upper i) 0 ≡ suc j → Names L Crew i j)
+        upper_real zero e = (ap kept_number e ∙ sym e, (λ j f. absurd (omega arith)))
         upper_real (suc j) e =
             let n : Names L Crew i j = ⊎_elim (λ own. absurd (not-upper (e ∙ ap suc own))) (λ n. n) (names_copy 1 i j h (stable.plan.listed (upper i) j e).0) in
-            (ap (real_site_of L) e ∙ real_site_is j (named_real i j n) ∙ sym e, (λ k f. subst (Names L Crew i) (let s : j ≡ k = omega arith in s) n))
+            (ap kept_number e ∙ ap number_written (real_site_is j (named_real i j n)) ∙ sym e, (λ k f. subst (Names L Crew i) (let s : j ≡ k = omega arith in s) n))
 
     pub reading : (i : ℕ) → i < size L Crew → Read i (level_by_copies L T i)
     reading i h = ⊎_elim

@@ -9,6 +9,7 @@ pub mod Levels
 pub mod Plans
 pub mod Roles
 pub mod Settled
+pub mod Slots
 pub mod Stability
 pub mod StableCalls
 pub mod Sums

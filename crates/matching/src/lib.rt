@@ -4,6 +4,7 @@
 pub mod checks;
 mod copies;
 mod limits;
+mod plans;
 mod proposals;
 mod roles;
 pub mod settled;

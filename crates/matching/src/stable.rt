@@ -1,10 +1,11 @@
 // The stable call: the crew-best stable plan, by deferred acceptance.
 ghost use Rattle.std.specs.Prelude.{◌≡◌, ℕ, suc, ◌<◌, length, slice_index};
-ghost use Rattle.lists.specs.Rankings.{size};
-ghost use Rattle.matching.specs.Acceptance.{Asks, AskingIn, Turned, unrefused, Outcome};
+ghost use Rattle.lists.specs.Rankings.{size, ranks};
+ghost use Rattle.matching.specs.Acceptance.{Asks, AskingIn, Turned, unrefused, chosen};
 ghost use Rattle.matching.specs.Stability.{StableCall};
 ghost use Rattle.matching.specs.StableCalls.{Found};
 
+use crate::plans::{number_written, write_each};
 use crate::proposals::Proposals;
 use lists::faults::Fault;
 use lists::interface::Lists;
@@ -43,27 +44,24 @@ fn ask_all<L: Lists>(lists: &L) -> Proposals
     state
 }
 
-// Writes down what every crew has: the entry that has not refused it.
-fn write_down<L: Lists>(lists: &L, state: &Proposals, plan: &mut [u16])
-    requires sized { length plan.old ≡ size (L.Lists.meaning lists.now) Side.Crew }
+// What a plan has for a crew in the end: the entry that has not refused it.
+#[tactic(auto, using(crate::proofs::Few::few_parties))]
+fn chosen<L: Lists>(lists: &L, state: &Proposals, crew: u16) -> u16
+    requires within { crew < size (L.Lists.meaning lists.now) Side.Crew }
     requires room { length state.now.refusals ≡ 500 }
-    ensures { Outcome (L.Lists.meaning lists.now) (λ i. slice_index state.now.refusals i) plan.new }
+    ensures { result ≡ chosen (ranks (L.Lists.meaning lists.now) Side.Crew crew) (slice_index state.now.refusals crew) }
 {
-    for (crew, slot) in plan.iter_mut().enumerate() {
-        *slot = match lists.entry(Party::crew(crew as u16), state.refusals[crew]) {
-            Some(site) => site + 1,
-            None => 0,
-        };
-    }
+    number_written(lists.entry(Party::crew(crew), state.refusals[usize::from(crew)]))
 }
 
 // Pairs the crews and writes down what they have.
+#[tactic(auto, using(crate::proofs::Few::few_parties))]
 pub(crate) fn pair<L: Lists>(lists: &L, plan: &mut [u16])
     requires { length plan.old ≡ size (L.Lists.meaning lists.now) Side.Crew }
     ensures { Found (L.Lists.meaning lists.now) plan.new }
 {
     let state = ask_all(lists);
-    write_down(lists, &state, plan);
+    write_each(plan, |crew| chosen(lists, &state, crew));
 }
 
 // Writes the crew-best stable plan, a number for each crew: 0 for none, else the site's number plus 1.

@@ -45,7 +45,8 @@ impl<L: Lists> TwoLevel<L> {
     }
 
     // The site that stands in for a crew of the lists below.
-    fn stand_in(&self, crew: u16) -> u16
+    #[tactic(auto, using(crate::proofs::Few::few_parties))]
+    pub(crate) fn stand_in(&self, crew: u16) -> u16
         requires { crew < size (L.Lists.meaning self.now.lists) Side.Crew }
         ensures { result ≡ stand_in_of (L.Lists.meaning self.now.lists) crew }
     {
