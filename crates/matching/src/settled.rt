@@ -6,8 +6,9 @@ ghost use Rattle.lists.specs.declared.parties.Side.TheVariants.{Crew};
 ghost use Rattle.matching.specs.Copies.{number_of};
 ghost use Rattle.matching.specs.Plans.{number_written};
 ghost use Rattle.matching.specs.Settled.{partner_in, real_site_of, site_by_copies, level_by_copies, settled_plan_of, settled_levels_of, settle_fault, SettleCall, SettledPlanIsDominant};
-ghost use Rattle.matching.specs.TwoLevels.{fits_two_levels};
+ghost use Rattle.matching.specs.TwoLevels.{fits_two_levels, two_levels_of};
 
+use crate::checks::check_length;
 use crate::copies::CrewCopy;
 use crate::limits::MOST;
 use crate::plans::{number_written, site_written, write_each};
@@ -70,7 +71,7 @@ impl<L: Lists> Copies<'_, L> {
 #[tactic(auto, using(crate::proofs::Few::few_parties))]
 fn read_off<L: Lists>(lists: &L, both: &mut [u16], plan: &mut [u16], levels: &mut [u8])
     requires few { fits_two_levels (L.Lists.meaning lists.now) ≡ true }
-    requires room { length both.old ≡ 2 * size (L.Lists.meaning lists.now) Side.Crew }
+    requires room { length both.old ≡ size (two_levels_of (L.Lists.meaning lists.now)) Side.Crew }
     requires sites { length plan.old ≡ size (L.Lists.meaning lists.now) Side.Crew }
     requires marks { length levels.old ≡ size (L.Lists.meaning lists.now) Side.Crew }
     ensures { (plan.new ≡ settled_plan_of (L.Lists.meaning lists.now)) × (levels.new ≡ settled_levels_of (L.Lists.meaning lists.now)) }
@@ -88,28 +89,19 @@ fn check_room<L: Lists>(lists: &L, plan: &[u16], levels: &[u8]) -> Result<(), Fa
     if !few_enough(lists) {
         return Err(Fault::ListsTooLarge);
     }
-    let crews = lists.count(Side::Crew) as usize;
-    if plan.len() != crews {
-        return Err(Fault::HandedLength {
-            which: Which::First,
-        });
-    }
-    if levels.len() != crews {
-        return Err(Fault::HandedLength {
-            which: Which::Second,
-        });
-    }
-    Ok(())
+    check_length(lists, plan.len(), Which::First)?;
+    check_length(lists, levels.len(), Which::Second)
 }
 
 // Writes the settled plan, a number for each crew as in any plan, and its levels.
+#[tactic(auto, using(crate::proofs::Few::few_copies))]
 pub fn settled_plan<L: Lists>(lists: &L, plan: &mut [u16], levels: &mut [u8]) -> Result<(), Fault>
     ensures call { SettleCall (L.Lists.meaning lists.now) plan.old levels.old plan.new levels.new result }
     ensures law { SettledPlanIsDominant }
 {
     check_room(lists, plan, levels)?;
     let mut both = [0u16; MOST];
-    let copies = 2 * lists.count(Side::Crew) as usize;
-    read_off(lists, &mut both[0..copies], plan, levels);
+    let crews = usize::from(TwoLevel { lists }.count(Side::Crew));
+    read_off(lists, &mut both[0..crews], plan, levels);
     Ok(())
 }

@@ -6,10 +6,10 @@ use Rattle.matching.specs.Settled.{site_by_copies, level_by_copies, sites_in, le
 use Rattle.matching.specs.Evidence.TwoLevels.{sized, size_crews}
 use Rattle.matching.proofs.settled.read_off.Goals as goal
 
-pub pair-requires : goal.pair-requires
-pair-requires g c =
+pub invariant_of-copies : goal.invariant_of-copies
+invariant_of-copies g c =
     let L = g.L.Lists.meaning c.args.lists.now in
-    omega (arith, size_crews L, (sized L c.requires.few).crews_are, c.requires.room)
+    record { whole = omega (arith, size_crews L, (sized L c.requires.few).crews_are, c.requires.room) }
 
 pub returns : goal.returns
 returns g c =
