@@ -1,5 +1,5 @@
 -- When nobody is asking, what the crews have is the crew-best stable plan, and there is only one.
-use Rattle.std.proofs.Common.{◌≡◌, ℕ, zero, suc, ◌<◌, ◌≤◌, ltb, List, length, get_or, None, Option, sym, refl, ap, ◌∙◌, subst, ⊎_elim, arith}
+use Rattle.std.proofs.Common.{◌≡◌, ℕ, zero, suc, ◌<◌, ◌≤◌, ltb, List, length, get_or, sym, refl, ap, ◌∙◌, subst, ⊎_elim, arith}
 use Rattle.std.proofs.lemmas.List.{ext_get_or}
 use Rattle.std.proofs.lemmas.Bool.{cases_lt, lt-ltb, le-ltb, cond-true, cond-false}
 use Rattle.lists.specs.Rankings.{Rankings, Lawful, Names, ranks, place, size}
@@ -8,8 +8,8 @@ use Rattle.lists.specs.declared.parties.Side.TheVariants.{Crew, Site}
 use Rattle.matching.specs.Plans.{With, Listed, PlanOn}
 use Rattle.matching.specs.Stability.{Blocks, Stable, CrewBest, TheCrewBest}
 use Rattle.matching.specs.Acceptance.{Asking, AskingIn, Outcome, chosen}
-use Rattle.matching.specs.Answers.{held_by, held_at}
-use Rattle.matching.specs.declared.proposals.Hold.{Hold}
+use Rattle.matching.specs.Answers.{refusals_in, holder_in, rank_in}
+use Rattle.matching.specs.declared.proposals.Proposals.{Proposals}
 use Rattle.matching.proofs.Partners.{within_plan, naming}
 use Rattle.matching.proofs.Steps.{listed_entry}
 
@@ -119,7 +119,6 @@ the_crew_best : (L : Rankings) (P : List ℕ) → CrewBest L P → TheCrewBest L
 the_crew_best L P p = record { crew_best = p; alone = λ Q q. one_crew_best L Q P q p }
 
 -- the same of the state as the program holds it, when all have begun and nobody is asking
-pub best_in_the_end : (L : Rankings) → Lawful L → (refusals : List ℕ) (holds : List (Option Hold)) (P : List ℕ) →
-    AskingIn L refusals holds (size L Crew) (size L Crew) → Outcome L (λ i. get_or refusals i 0) P → TheCrewBest L P
-best_in_the_end L lawful refusals holds P quiet out =
-    the_crew_best L P (crew_best_in_the_end L lawful (λ i. get_or refusals i 0) (λ j. held_by (get_or holds j None)) (λ j. held_at (get_or holds j None)) (size L Crew) P quiet.state refl out)
+pub best_in_the_end : (L : Rankings) → Lawful L → (p : Proposals) (P : List ℕ) → AskingIn L p (size L Crew) (size L Crew) → Outcome L (refusals_in p) P → TheCrewBest L P
+best_in_the_end L lawful p P quiet out =
+    the_crew_best L P (crew_best_in_the_end L lawful (refusals_in p) (holder_in p) (rank_in p) (size L Crew) P quiet.state refl out)

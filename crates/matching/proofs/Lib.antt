@@ -11,7 +11,6 @@ pub mod Partners
 pub mod Passing
 pub mod ReadOff
 pub mod RoleLists
-pub mod SettleCalls
 pub mod Settling
 pub mod Steps
 pub mod Totals

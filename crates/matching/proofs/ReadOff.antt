@@ -4,7 +4,6 @@ use Rattle.std.proofs.lemmas.Bool.Decides.{nat_tests}
 use Rattle.std.specs.Option.{option_or}
 use Rattle.lists.specs.Rankings.{Rankings, size}
 use Rattle.lists.specs.declared.parties.Side.TheVariants.{Site}
-use Rattle.matching.proofs.Few.{few_sites}
 use Rattle.matching.specs.Plans.{number_written}
 use Rattle.matching.specs.Settled.{real_site_of}
 
@@ -14,5 +13,3 @@ number_real L None None = omega arith
 number_real L None (Some j) = grind (arith, nat_tests)
 number_real L (Some i) None = grind (arith, nat_tests)
 number_real L (Some i) (Some j) = grind (arith, nat_tests)
-
-pub ruleset numbers_fit = (few_sites, number_real)

@@ -3,7 +3,7 @@ use Rattle.std.proofs.Common.{◌≡◌, ℕ, ◌<◌, List, [], ◌∷◌, map,
 use lib.ListN.{length-map}
 use Rattle.std.proofs.lemmas.Bool.{cases_lt}
 use Rattle.std.proofs.lemmas.Bool.Decides.{nat_tests}
-use Rattle.lists.specs.Rankings.{Rankings, ranks, place, size, place_of}
+use Rattle.lists.specs.Rankings.{Rankings, Lawful, ranks, place, size, place_of}
 use Rattle.lists.specs.declared.parties.Party.{Party}
 use Rattle.lists.specs.declared.parties.Side.TheVariants.{Crew, Site}
 use Rattle.lists.proofs.Pigeonhole.{length_few}
@@ -88,8 +88,15 @@ place_of_lower L i y n =
     (λ h. let behind = place_behind xs (stand_in_of L i ∷ []) y h in grind (arith, nat_tests))
     (cases_lt (place xs y) (length xs))
 
+-- the stand-in is the last there
+pub place_of_lower_own : {L : Rankings} → Lawful L → (i y : ℕ) → y ≡ stand_in_of L i → place_of (lower_list L i) y ≡ Some (length (ranks L Crew i))
+place_of_lower_own {L} lawful i y e =
+    let at = place_lower_own lawful i in
+    let long = length_lower lawful i in
+    rw e (grind (arith, nat_tests))
+
 -- what the places in both kinds of list need
-pub ruleset lower_places = (place_of_lower, place_lower_own, length_lower)
+pub ruleset lower_places = (place_of_lower, place_of_lower_own)
 
 pub ruleset split_places = (place_of_split_upper, place_split_lower, length_split, length_few)
 

@@ -98,6 +98,7 @@ impl<L: Lists> Checked<'_, L> {
 }
 
 // Checks that numbers are a plan on lists.
+#[tactic(auto, using(crate::proofs::Passing::passing_is_a_plan))]
 pub fn check_plan<L: Lists>(lists: &L, plan: &[u16], which: Which) -> Result<(), Fault>
     ensures answer { result ≡ granted (plan_fault (L.Lists.meaning lists.now) plan.now which) tt }
     ensures meaning { PassingIsBeingAPlan }

@@ -46,7 +46,6 @@ impl<L: Lists> Copies<'_, L> {
     }
 
     // What a plan has for a crew: the site of its lower or else of its upper copy.
-    #[tactic(auto, using(crate::proofs::ReadOff::numbers_fit))]
     fn site(&self, crew: u16) -> u16
         requires { crew < size (L.Lists.meaning self.now.lists) Side.Crew }
         ensures { result ≡ site_by_copies (L.Lists.meaning self.now.lists) self.now.both.now crew }
@@ -94,7 +93,7 @@ fn check_room<L: Lists>(lists: &L, plan: &[u16], levels: &[u8]) -> Result<(), Fa
 }
 
 // Writes the settled plan, a number for each crew as in any plan, and its levels.
-#[tactic(auto, using(crate::proofs::Few::few_copies))]
+#[tactic(auto, using(crate::proofs::Few::few_copies, crate::proofs::Settling::settled_well))]
 pub fn settled_plan<L: Lists>(lists: &L, plan: &mut [u16], levels: &mut [u8]) -> Result<(), Fault>
     ensures call { SettleCall (L.Lists.meaning lists.now) plan.old levels.old plan.new levels.new result }
     ensures law { SettledPlanIsDominant }

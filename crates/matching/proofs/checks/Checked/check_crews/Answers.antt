@@ -11,6 +11,12 @@ use Rattle.matching.proofs.checks.Checked.check_crews.Goals as goal
 pub loop-crew-init : goal.loop-crew-init
 loop-crew-init g c = (taken_none c.args.self.now.plan.now c.new-taken.result.sites c.new-taken.ensures, earliest_none _)
 
+pub take-requires : goal.take-requires
+take-requires g c =
+    let L = g.L.Lists.meaning c.args.self.now.lists in
+    let few = (g.L.Lists.lawful c.args.self.now.lists).few Site in
+    omega (arith, (crew_passes L c.args.self.now.plan.now c.args.self.now.which c.loop-crew.crew (granted_ok _ tt _ c.in_ok-check_crew.ensures)).exists)
+
 pub returns-in_err-check_crew : goal.returns-in_err-check_crew
 returns-in_err-check_crew g c =
     let p = err_from_is_err_and c.from_residual.result c.from_residual.ensures.1 in
