@@ -1,4 +1,3 @@
-pub mod Asked
 pub mod Balances
 pub mod Ballots
 pub mod Deferral

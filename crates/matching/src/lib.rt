@@ -3,6 +3,7 @@
 
 pub mod checks;
 mod copies;
+mod crews;
 mod limits;
 mod plans;
 mod proposals;

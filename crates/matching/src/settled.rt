@@ -10,6 +10,7 @@ ghost use Rattle.matching.specs.TwoLevels.{fits_two_levels, two_levels_of};
 
 use crate::checks::check_length;
 use crate::copies::CrewCopy;
+use crate::crews::CrewBelow;
 use crate::limits::MOST;
 use crate::plans::{number_written, site_written, write_each};
 use crate::stable::pair;
@@ -61,7 +62,11 @@ impl<L: Lists> Copies<'_, L> {
         requires { crew < size (L.Lists.meaning self.now.lists) Side.Crew }
         ensures { result ≡ level_by_copies (L.Lists.meaning self.now.lists) self.now.both.now crew }
     {
-        let stand_in = TwoLevel { lists: &self.lists }.stand_in(crew);
+        let stand_in = CrewBelow {
+            lists: &self.lists,
+            crew,
+        }
+        .stand_in();
         u8::from(self.partner(CrewCopy::Upper { crew }) != Some(stand_in))
     }
 }
@@ -88,8 +93,8 @@ fn check_room<L: Lists>(lists: &L, plan: &[u16], levels: &[u8]) -> Result<(), Fa
     if !few_enough(lists) {
         return Err(Fault::ListsTooLarge);
     }
-    check_length(lists, plan.len(), Which::First)?;
-    check_length(lists, levels.len(), Which::Second)
+    check_length(lists, plan, Which::First)?;
+    check_length(lists, levels, Which::Second)
 }
 
 // Writes the settled plan, a number for each crew as in any plan, and its levels.
@@ -99,7 +104,7 @@ pub fn settled_plan<L: Lists>(lists: &L, plan: &mut [u16], levels: &mut [u8]) ->
     ensures law { SettledPlanIsDominant }
 {
     check_room(lists, plan, levels)?;
-    let mut both = [0u16; MOST];
+    let mut both = [0; MOST];
     let crews = usize::from(TwoLevel { lists }.count(Side::Crew));
     read_off(lists, &mut both[0..crews], plan, levels);
     Ok(())

@@ -2,10 +2,11 @@
 ghost use Rattle.std.specs.Prelude.{◌≡◌, ◌<◌, ◌≤◌, MatchOption};
 ghost use Rattle.lists.specs.Rankings.{size, ranks, entry_at, place_of};
 ghost use Rattle.matching.specs.Roles.{HasRole, role_list};
-ghost use Rattle.matching.specs.TwoLevels.{stand_in_of, lower_list, upper_list, split_list, own_list, fits_two_levels, two_levels_of};
+ghost use Rattle.matching.specs.TwoLevels.{split_list, fits_two_levels, two_levels_of};
 ghost use Rattle.matching.specs.Evidence.TwoLevels.{two_levels_lawful};
 
 use crate::copies::CrewCopy;
+use crate::crews::CrewBelow;
 use crate::roles::Role;
 use lists::interface::Lists;
 use lists::parties::{Party, Side};
@@ -44,61 +45,15 @@ impl<L: Lists> TwoLevel<L> {
         })
     }
 
-    // The site that stands in for a crew of the lists below.
-    #[tactic(auto, using(crate::proofs::Few::few_parties))]
-    pub(crate) fn stand_in(&self, crew: u16) -> u16
+    // A crew of the lists below, by which its copies and its stand-in answer.
+    fn below(&self, crew: u16) -> CrewBelow<&L>
         requires { crew < size (L.Lists.meaning self.now.lists) Side.Crew }
-        ensures { result ≡ stand_in_of (L.Lists.meaning self.now.lists) crew }
+        ensures { (result.lists.now ≡ self.now.lists) × (result.crew ≡ crew) }
     {
-        self.lists.count(Side::Site) + crew
-    }
-}
-
-// The lists of the two copies of a crew: that of the crew, with its stand-in last for the lower copy and first for the upper one.
-impl<L: Lists> TwoLevel<L> {
-    fn lower_entry(&self, crew: u16, place: u16) -> Option<u16>
-        requires { crew < size (L.Lists.meaning self.now.lists) Side.Crew }
-        ensures { result ≡ entry_at (lower_list (L.Lists.meaning self.now.lists) crew) place }
-    {
-        if place == self.lists.length(Party::crew(crew)) {
-            Some(self.stand_in(crew))
-        } else {
-            self.lists.entry(Party::crew(crew), place)
+        CrewBelow {
+            lists: &self.lists,
+            crew,
         }
-    }
-
-    fn upper_entry(&self, crew: u16, place: u16) -> Option<u16>
-        requires { crew < size (L.Lists.meaning self.now.lists) Side.Crew }
-        ensures { result ≡ entry_at (upper_list (L.Lists.meaning self.now.lists) crew) place }
-    {
-        match place.checked_sub(1) {
-            None => Some(self.stand_in(crew)),
-            Some(rest) => self.lists.entry(Party::crew(crew), rest),
-        }
-    }
-
-    #[tactic(auto, using(crate::proofs::RoleLists::lower_places))]
-    fn lower_place(&self, crew: u16, site: u16) -> Option<u16>
-        requires { crew < size (L.Lists.meaning self.now.lists) Side.Crew }
-        ensures { result ≡ place_of (lower_list (L.Lists.meaning self.now.lists) crew) site }
-    {
-        if site == self.stand_in(crew) {
-            Some(self.lists.length(Party::crew(crew)))
-        } else {
-            self.lists.place(Party::crew(crew), site)
-        }
-    }
-
-    #[tactic(auto, using(lists::proofs::Pigeonhole::length_few))]
-    fn upper_place(&self, crew: u16, site: u16) -> Option<u16>
-        requires { crew < size (L.Lists.meaning self.now.lists) Side.Crew }
-        ensures { result ≡ place_of (upper_list (L.Lists.meaning self.now.lists) crew) site }
-    {
-        if site == self.stand_in(crew) {
-            return Some(0);
-        }
-        let place = self.lists.place(Party::crew(crew), site)?;
-        Some(place + 1)
     }
 }
 
@@ -128,29 +83,6 @@ impl<L: Lists> TwoLevel<L> {
             }
             CrewCopy::Upper { crew } => self.lists.place(Party::site(site), crew),
         }
-    }
-}
-
-// Whom a crew's stand-in names at a place: the lower copy of the crew and then the upper one.
-fn own_entry(crew: u16, place: u16) -> Option<u16>
-    requires { crew < 500 }
-    ensures { result ≡ entry_at (own_list crew) place }
-{
-    match place {
-        0 => Some(CrewCopy::Lower { crew }.number()),
-        1 => Some(CrewCopy::Upper { crew }.number()),
-        _ => None,
-    }
-}
-
-// At which place a crew's stand-in names another.
-fn own_place(crew: u16, named: u16) -> Option<u16>
-    ensures { result ≡ place_of (own_list crew) named }
-{
-    match CrewCopy::from(named) {
-        CrewCopy::Lower { crew: below } if below == crew => Some(0),
-        CrewCopy::Upper { crew: below } if below == crew => Some(1),
-        _ => None,
     }
 }
 
@@ -185,19 +117,19 @@ impl<L: Lists> Lists for TwoLevel<L> {
 
     fn entry(&self, party: Party, place: u16) -> Option<u16> {
         match self.role(party)? {
-            Role::Copied(CrewCopy::Lower { crew }) => self.lower_entry(crew, place),
-            Role::Copied(CrewCopy::Upper { crew }) => self.upper_entry(crew, place),
+            Role::Copied(CrewCopy::Lower { crew }) => self.below(crew).lower_entry(place),
+            Role::Copied(CrewCopy::Upper { crew }) => self.below(crew).upper_entry(place),
             Role::Real { site } => self.split_entry(site, place),
-            Role::StandIn { crew } => own_entry(crew, place),
+            Role::StandIn { crew } => self.below(crew).own_entry(place),
         }
     }
 
     fn place(&self, party: Party, named: u16) -> Option<u16> {
         match self.role(party)? {
-            Role::Copied(CrewCopy::Lower { crew }) => self.lower_place(crew, named),
-            Role::Copied(CrewCopy::Upper { crew }) => self.upper_place(crew, named),
+            Role::Copied(CrewCopy::Lower { crew }) => self.below(crew).lower_place(named),
+            Role::Copied(CrewCopy::Upper { crew }) => self.below(crew).upper_place(named),
             Role::Real { site } => self.split_place(site, named),
-            Role::StandIn { crew } => own_place(crew, named),
+            Role::StandIn { crew } => self.below(crew).own_place(named),
         }
     }
 }
