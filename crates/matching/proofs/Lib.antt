@@ -8,7 +8,6 @@ pub mod Granted
 pub mod Holding
 pub mod Partners
 pub mod Passing
-pub mod ReadOff
 pub mod RoleLists
 pub mod Settling
 pub mod Steps

@@ -104,6 +104,5 @@ pub fn check_plan<L: Lists>(lists: &L, plan: &[u16], which: Which) -> Result<(),
     ensures meaning { PassingIsBeingAPlan }
 {
     check_length(lists, plan, which)?;
-    let checked = Checked { lists, plan, which };
-    checked.check_crews()
+    Checked { lists, plan, which }.check_crews()
 }

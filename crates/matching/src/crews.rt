@@ -1,6 +1,6 @@
 // What a crew of the lists below becomes: a lower crew, an upper crew, and a site that stands in for it.
-ghost use Rattle.std.specs.Prelude.{◌≡◌, ◌<◌};
-ghost use Rattle.lists.specs.Rankings.{size, entry_at, place_of};
+ghost use Rattle.std.specs.Prelude.{◌≡◌, ◌+◌, ◌<◌, length};
+ghost use Rattle.lists.specs.Rankings.{size, ranks, entry_at, place_of};
 ghost use Rattle.lists.specs.declared.parties.Side.TheVariants.{Crew};
 ghost use Rattle.matching.specs.TwoLevels.{stand_in_of, lower_list, upper_list, own_list};
 
@@ -22,6 +22,14 @@ impl<L: Lists> CrewBelow<L> {
         ensures { result ≡ stand_in_of (L.Lists.meaning self.now.lists) self.now.crew }
     {
         self.lists.count(Side::Site) + self.crew
+    }
+
+    // How many sites its lower crew names, and its upper crew as well.
+    #[tactic(auto, using(lists::proofs::Pigeonhole::length_few))]
+    pub(crate) fn copy_length(&self) -> u16
+        ensures { result ≡ length (ranks (L.Lists.meaning self.now.lists) Side.Crew self.now.crew) + 1 }
+    {
+        self.lists.length(Party::crew(self.crew)) + 1
     }
 }
 

@@ -106,10 +106,9 @@ impl<L: Lists> Lists for TwoLevel<L> {
     fn length(&self, party: Party) -> u16 {
         match self.role(party) {
             None => 0,
-            Some(Role::Copied(CrewCopy::Lower { crew } | CrewCopy::Upper { crew })) => self
-                .lists
-                .length(Party::crew(crew))
-                + 1,
+            Some(Role::Copied(CrewCopy::Lower { crew } | CrewCopy::Upper { crew })) => {
+                self.below(crew).copy_length()
+            }
             Some(Role::Real { site }) => 2 * self.lists.length(Party::site(site)),
             Some(Role::StandIn { .. }) => 2,
         }
