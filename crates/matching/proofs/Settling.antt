@@ -52,69 +52,59 @@ module _ {L : Rankings} (lawful : Lawful L) (few : fits_two_levels L ≡ true) w
   both_list x y n = (n, (two_levels_lawful lawful).returned Crew x y n)
 
   listed_copy : (a i j : ℕ) → Names L Crew i j → Listed L₂ (copy a i) j
-  listed_copy zero i j n = both_list (lower i) j (subst (λ xs. place xs j < length xs) (sym (ranks_lower L z i (naming L Crew i j n)))
-      (let p = place_lower lawful i j n in let l = length_lower lawful i in omega arith))
-  listed_copy (suc a) i j n = both_list (upper i) j (subst (λ xs. place xs j < length xs) (sym (ranks_upper L z i (naming L Crew i j n)))
-      (let real = named_real i j n in let p = place_upper lawful i j (λ e. omega arith) in omega arith))
+  listed_copy zero i j n = both_list (lower i) j (rw (ranks_lower L z i (naming L Crew i j n)) (omega (arith, place_lower lawful i j n, length_lower lawful i)))
+  listed_copy (suc a) i j n = let real = named_real i j n in both_list (upper i) j (rw (ranks_upper L z i (naming L Crew i j n)) (omega (arith, place_upper lawful i j (λ e. omega arith))))
 
   listed_own : (a i : ℕ) → i < size L Crew → Listed L₂ (copy a i) (stand_in_of L i)
-  listed_own zero i h = both_list (lower i) (stand_in_of L i) (subst (λ xs. place xs (stand_in_of L i) < length xs) (sym (ranks_lower L z i h))
-      (let p = place_lower_own lawful i in let l = length_lower lawful i in omega arith))
-  listed_own (suc a) i h = both_list (upper i) (stand_in_of L i) (subst (λ xs. place xs (stand_in_of L i) < length xs) (sym (ranks_upper L z i h))
-      (let p = place_upper_own lawful i in omega arith))
+  listed_own zero i h = both_list (lower i) (stand_in_of L i) (rw (ranks_lower L z i h) (omega (arith, place_lower_own lawful i, length_lower lawful i)))
+  listed_own (suc a) i h = both_list (upper i) (stand_in_of L i) (rw (ranks_upper L z i h) (omega (arith, place_upper_own lawful i)))
 
   -- whom a crew of the two-level lists can have: a site that the crew names, or the stand-in
-  names_copy : (a i y : ℕ) → i < size L Crew → Names L₂ Crew (copy a i) y → (y ≡ stand_in_of L i) ⊎ Names L Crew i y
-  names_copy zero i y h n =
-      let m = subst (λ xs. place xs y < length xs) (ranks_lower L z i h) n in
-      each_named (λ v. (v ≡ stand_in_of L i) ⊎ Names L Crew i v) (lower_list L i)
-      (each_join (λ v. (v ≡ stand_in_of L i) ⊎ Names L Crew i v) (ranks L Crew i) (stand_in_of L i ∷ []) (λ k l. inr (named L lawful Crew i k l)) (each_one (λ v. (v ≡ stand_in_of L i) ⊎ Names L Crew i v) (stand_in_of L i) (inl refl))) y m
-  names_copy (suc a) i y h n =
-      let m = subst (λ xs. place xs y < length xs) (ranks_upper L z i h) n in
-      each_named (λ v. (v ≡ stand_in_of L i) ⊎ Names L Crew i v) (upper_list L i)
-      (each_join (λ v. (v ≡ stand_in_of L i) ⊎ Names L Crew i v) (stand_in_of L i ∷ []) (ranks L Crew i) (each_one (λ v. (v ≡ stand_in_of L i) ⊎ Names L Crew i v) (stand_in_of L i) (inl refl)) (λ k l. inr (named L lawful Crew i k l))) y m
+  abbrev CanHave : ℕ → ℕ → Type 0
+  CanHave i v = (v ≡ stand_in_of L i) ⊎ Names L Crew i v
+
+  own_had : (i k : ℕ) → k < length (stand_in_of L i ∷ []) → CanHave i (get_or (stand_in_of L i ∷ []) k 0)
+  own_had i = each_one (CanHave i) (stand_in_of L i) (inl refl)
+
+  names_copy : (a i y : ℕ) → i < size L Crew → Names L₂ Crew (copy a i) y → CanHave i y
+  names_copy zero i y h n = each_named (CanHave i) (lower_list L i)
+      (each_join (CanHave i) (ranks L Crew i) (stand_in_of L i ∷ []) (λ k l. inr (named L lawful Crew i k l)) (own_had i)) y (rw (ranks_lower L z i h) at n)
+  names_copy (suc a) i y h n = each_named (CanHave i) (upper_list L i)
+      (each_join (CanHave i) (stand_in_of L i ∷ []) (ranks L Crew i) (own_had i) (λ k l. inr (named L lawful Crew i k l))) y (rw (ranks_upper L z i h) at n)
 
   -- a crew ranks the sites that it names in the same order at both levels
   crew_order : (a i j k : ℕ) → Names L Crew i j → Names L Crew i k → place (ranks L Crew i) j < place (ranks L Crew i) k →
       place (ranks L₂ Crew (copy a i)) j < place (ranks L₂ Crew (copy a i)) k
-  crew_order zero i j k nj nk h = subst (λ xs. place xs j < place xs k) (sym (ranks_lower L z i (naming L Crew i j nj)))
-      (let p = place_lower lawful i j nj in let q = place_lower lawful i k nk in omega arith)
-  crew_order (suc a) i j k nj nk h = subst (λ xs. place xs j < place xs k) (sym (ranks_upper L z i (naming L Crew i j nj)))
-      (let rj = named_real i j nj in let rk = named_real i k nk in
-      let p = place_upper lawful i j (λ e. omega arith) in let q = place_upper lawful i k (λ e. omega arith) in omega arith)
+  crew_order zero i j k nj nk h = rw (ranks_lower L z i (naming L Crew i j nj)) (omega (arith, place_lower lawful i j nj, place_lower lawful i k nk))
+  crew_order (suc a) i j k nj nk h = let rj = named_real i j nj in let rk = named_real i k nk in rw (ranks_upper L z i (naming L Crew i j nj)) (omega (arith, place_upper lawful i j (λ e. omega arith), place_upper lawful i k (λ e. omega arith)))
 
   -- a lower crew ranks its stand-in last
   own_last : (i j : ℕ) → Names L Crew i j → place (ranks L₂ Crew (lower i)) j < place (ranks L₂ Crew (lower i)) (stand_in_of L i)
-  own_last i j n = subst (λ xs. place xs j < place xs (stand_in_of L i)) (sym (ranks_lower L z i (naming L Crew i j n)))
-      (let p = place_lower lawful i j n in let q = place_lower_own lawful i in omega arith)
+  own_last i j n = rw (ranks_lower L z i (naming L Crew i j n)) (omega (arith, place_lower lawful i j n, place_lower_own lawful i))
 
   -- an upper crew ranks its stand-in first
   own_first : (i y : ℕ) → i < size L Crew → (stand_in_of L i ≡ y → ⊥) → place (ranks L₂ Crew (upper i)) (stand_in_of L i) < place (ranks L₂ Crew (upper i)) y
-  own_first i y h n = subst (λ xs. place xs (stand_in_of L i) < place xs y) (sym (ranks_upper L z i h))
-      (let p = place_upper_own lawful i in let q = place_upper lawful i y n in omega arith)
+  own_first i y h n = rw (ranks_upper L z i h) (omega (arith, place_upper_own lawful i, place_upper lawful i y n))
 
   -- a site ranks upper crews before lower ones, and those of a level in its own order
   upper_before : (i k j : ℕ) → Names L Site j i → place (ranks L₂ Site j) (upper i) < place (ranks L₂ Site j) (lower k)
-  upper_before i k j n = subst (λ xs. place xs (upper i) < place xs (lower k)) (sym (ranks_real L z j (naming L Site j i n)))
-      (let p = place_split_upper (ranks L Site j) i n in let q = place_split_lower (ranks L Site j) k in omega arith)
+  upper_before i k j n = rw (ranks_real L z j (naming L Site j i n)) (omega (arith, place_split_upper (ranks L Site j) i n, place_split_lower (ranks L Site j) k))
 
   site_order : (a i k j : ℕ) → Names L Site j i → Names L Site j k → place (ranks L Site j) i < place (ranks L Site j) k →
       place (ranks L₂ Site j) (copy a i) < place (ranks L₂ Site j) (copy a k)
-  site_order zero i k j ni nk h = subst (λ xs. place xs (lower i) < place xs (lower k)) (sym (ranks_real L z j (naming L Site j i ni)))
-      (let p = place_split_lower (ranks L Site j) i in let q = place_split_lower (ranks L Site j) k in omega arith)
-  site_order (suc a) i k j ni nk h = subst (λ xs. place xs (upper i) < place xs (upper k)) (sym (ranks_real L z j (naming L Site j i ni)))
-      (let p = place_split_upper (ranks L Site j) i ni in let q = place_split_upper (ranks L Site j) k nk in omega arith)
+  site_order zero i k j ni nk h = rw (ranks_real L z j (naming L Site j i ni)) (omega (arith, place_split_lower (ranks L Site j) i, place_split_lower (ranks L Site j) k))
+  site_order (suc a) i k j ni nk h = rw (ranks_real L z j (naming L Site j i ni)) (omega (arith, place_split_upper (ranks L Site j) i ni, place_split_upper (ranks L Site j) k nk))
 
   -- a stand-in names only its own two crews, the lower one first
-  own_named : (i x : ℕ) → i < size L Crew → Names L₂ Site (stand_in_of L i) x → (x ≡ lower i) ⊎ (x ≡ upper i)
-  own_named i x h n =
-      each_named (λ v. (v ≡ lower i) ⊎ (v ≡ upper i)) (own_list i)
-      (each_join (λ v. (v ≡ lower i) ⊎ (v ≡ upper i)) (lower i ∷ []) (upper i ∷ [])
-      (each_one (λ v. (v ≡ lower i) ⊎ (v ≡ upper i)) (lower i) (inl refl)) (each_one (λ v. (v ≡ lower i) ⊎ (v ≡ upper i)) (upper i) (inr refl))) x
-      (subst (λ xs. place xs x < length xs) (ranks_own L z i h) n)
+  abbrev IsCopy : ℕ → ℕ → Type 0
+  IsCopy i v = (v ≡ lower i) ⊎ (v ≡ upper i)
+
+  own_named : (i x : ℕ) → i < size L Crew → Names L₂ Site (stand_in_of L i) x → IsCopy i x
+  own_named i x h n = each_named (IsCopy i) (own_list i)
+      (each_join (IsCopy i) (lower i ∷ []) (upper i ∷ []) (each_one (IsCopy i) (lower i) (inl refl)) (each_one (IsCopy i) (upper i) (inr refl))) x (rw (ranks_own L z i h) at n)
 
   own_order : (i : ℕ) → i < size L Crew → place (ranks L₂ Site (stand_in_of L i)) (lower i) < place (ranks L₂ Site (stand_in_of L i)) (upper i)
-  own_order i h = subst (λ xs. place xs (lower i) < place xs (upper i)) (sym (ranks_own L z i h)) (omega (arith, place_own_lower i, place_own_upper i))
+  own_order i h = rw (ranks_own L z i h) (omega (arith, place_own_lower i, place_own_upper i))
 
   -- what a stable plan of the two-level lists gives the two crews of one crew
   module _ (T : List ℕ) (stable : Stable L₂ T) where

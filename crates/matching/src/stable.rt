@@ -12,9 +12,8 @@ use lists::faults::Fault;
 use lists::interface::Lists;
 use lists::parties::{Party, Side};
 
-// The lists stand beside the state, since a struct of both would have to say of every call that it leaves the lists.
-
 // A crew asks the next site of its list: the answer is the crew that is refused and asks on, if any.
+// The lists stand beside the state: a struct of both would have to say of every call that it leaves the lists.
 fn ask_next<L: Lists>(lists: &L, state: &mut Proposals, asker: u16) -> Option<u16>
     requires { (n : ℕ) × Asks (L.Lists.meaning lists.now) state.old n asker }
     ensures { (n : ℕ) → Asks (L.Lists.meaning lists.now) state.old n asker → Turned (L.Lists.meaning lists.now) n (unrefused (L.Lists.meaning lists.now) state.old) state.new result }
