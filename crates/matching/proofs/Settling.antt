@@ -128,7 +128,7 @@ module _ {L : Rankings} (lawful : Lawful L) (few : fits_two_levels L ≡ true) w
           listed_own 0 i h,
           (λ k w. absurd (omega arith)),
           (λ x w. let only = stable.plan.single (stand_in_of L i) (upper i) x up w in
-              subst (λ v. place (ranks L₂ Site (stand_in_of L i)) (lower i) < place (ranks L₂ Site (stand_in_of L i)) v) only (own_order i h)),
+              rw only at (own_order i h)),
         ))
         placed_at (suc j) e = (
           j,
@@ -258,7 +258,7 @@ module _ {L : Rankings} (lawful : Lawful L) (few : fits_two_levels L ≡ true) w
     -- a site would rather have a copy of a crew, if it ranks that before the copy of each crew that it may have
     site_rather : (a i j : ℕ) → j < size L Site → ((k : ℕ) → With P Crew k j → place (ranks L₂ Site j) (copy a i) < place (ranks L₂ Site j) (copy (level_by_copies L T k) k)) → Rather L₂ T Site j (copy a i)
     site_rather a i j real before x w = let o = holder j x real w in
-        subst (λ v. place (ranks L₂ Site j) (copy a i) < place (ranks L₂ Site j) v) (sym o.1) (before o.0 o.2)
+        rw o.1 (before o.0 o.2)
 
     -- the level of a site that a crew has
     site_level : (k j : ℕ) → With P Crew k j → level_of P K Site j ≡ level_by_copies L T k
@@ -288,13 +288,12 @@ module _ {L : Rankings} (lawful : Lawful L) (few : fits_two_levels L ≡ true) w
     -- the lower copy of a crew that a site of level 0 favours is ranked before the copy of whomever it has
     lower_wins : (i j : ℕ) → Names L Site j i → level_of P K Site j ≡ 0 → favours L P Site j i ≡ true →
         (k : ℕ) → With P Crew k j → place (ranks L₂ Site j) (copy 0 i) < place (ranks L₂ Site j) (copy (level_by_copies L T k) k)
-    lower_wins i j n low f k w = subst (λ b. place (ranks L₂ Site j) (copy 0 i) < place (ranks L₂ Site j) (copy b k)) (sym (lower_held j k w low))
-        (site_order 0 i k j n (settled_is_plan.listed k j w).1 (site_favours i j k w f))
+    lower_wins i j n low f k w = rw (lower_held j k w low) (site_order 0 i k j n (settled_is_plan.listed k j w).1 (site_favours i j k w f))
 
     pub settled_rules : LevelRules L P K
     settled_rules = record {
       whole = length-map-range_with_len (level_by_copies L T) 0 (size L Crew);
-      binary = λ i h. subst (λ k. k ≤ 1) (sym (level_at i h)) (reading i h).binary;
+      binary = λ i h. rw (level_at i h) (reading i h).binary;
       is_left_out = λ i h e. let r = reading i h in
           ⊎_elim (λ low. absurd (r.placed low (sym (site_at i h) ∙ e))) (λ up. level_at i h ∙ up) (zero_or_one (level_by_copies L T i) r.binary);
       both_for = λ i j apart crew site. (
@@ -311,7 +310,7 @@ module _ {L : Rankings} (lawful : Lawful L) (few : fits_two_levels L ≡ true) w
         both_crew i j both crew site = level_of_settled i j both.0 ∙ ⊎_elim (λ e. e)
             (λ e. absurd (stable.steady (copy 1 i) j (
               listed_copy 1 i j both.0,
-              subst (λ a. Rather L₂ T Crew (copy a i) j) e (crew_rather i j both.0 crew),
+              rw e at (crew_rather i j both.0 crew),
               site_rather 1 i j (named_real i j both.0) (λ k w. upper_wins i j k both.1 w site),
             )))
             (zero_or_one (level_by_copies L T i) (reading i (naming L Crew i j both.0)).binary)
@@ -331,7 +330,7 @@ module _ {L : Rankings} (lawful : Lawful L) (few : fits_two_levels L ≡ true) w
               listed_copy 1 i j both.0,
               subst (λ a. Rather L₂ T Crew (copy a i) j) (sym (level_of_settled i j both.0) ∙ up) (crew_rather i j both.0 crew),
               site_rather 1 i j (named_real i j both.0)
-                  (λ k w. subst (λ b. place (ranks L₂ Site j) (copy 1 i) < place (ranks L₂ Site j) (copy b k)) (sym (lower_held j k w low)) (upper_before i k j both.1)),
+                  (λ k w. rw (lower_held j k w low) (upper_before i k j both.1)),
             )))
             (λ e. e) (cases_Bool (favours L P Crew i j))
 
@@ -341,7 +340,7 @@ module _ {L : Rankings} (lawful : Lawful L) (few : fits_two_levels L ≡ true) w
               listed_copy 0 i j both.0,
               (λ k w. let own = (reading i (naming L Crew i j both.0)).spare (sym (level_of_settled i j both.0) ∙ up) in
                   let is : stand_in_of L i ≡ k = omega arith in
-                  subst (λ v. place (ranks L₂ Crew (lower i)) j < place (ranks L₂ Crew (lower i)) v) is (own_last i j both.0)),
+                  rw is at (own_last i j both.0)),
               site_rather 0 i j (named_real i j both.0) (lower_wins i j both.1 low site),
             )))
             (λ e. e) (cases_Bool (favours L P Site j i))

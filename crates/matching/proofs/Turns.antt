@@ -26,7 +26,7 @@ module _ (L : Rankings) (lawful : Lawful L) (p : Proposals) (n a : ℕ) (before 
   module _ (j r : ℕ) (left : refusals_in p a < length (ranks L Crew a)) (at : j ≡ get_or (ranks L Crew a) (refusals_in p a) 0)
       (ranked : r ≡ place (ranks L Site j) a) where
     pub listed : Names L Site j a
-    listed = subst (λ v. Names L Site v a) (sym at) (listed_entry L lawful a (refusals_in p a) left).1
+    listed = rw at (listed_entry L lawful a (refusals_in p a) left).1
 
     pub site_within : j < 500
     site_within =
@@ -133,7 +133,7 @@ module _ (L : Rankings) (lawful : Lawful L) (p : Proposals) (n a : ℕ) (before 
           let no-sooner = ltb-false h.place r later in
           let apart : b ≡ a → ⊥ = old.answered j b held in
           let b_at = old.holds j b held in
-          let b-listed : Names L Site j b = subst (λ v. Names L Site v b) b_at (listed_entry L lawful b (refusals_in p b) (old.asked j b held)).1 in
+          let b-listed : Names L Site j b = rw b_at at (listed_entry L lawful b (refusals_in p b) (old.asked j b held)).1 in
           let differ : place (ranks L Site j) a ≡ place (ranks L Site j) b → ⊥ =
           λ f. apart (sym (get_or_place (ranks L Site j) b b-listed) ∙ ap (λ v. get_or (ranks L Site j) v 0) (sym f) ∙ get_or_place (ranks L Site j) a listed) in
           refused b a (record { crew = a; place = r }) (old.begun j b held) before.begun apart (old.asked j b held) b_at left (sym at)
