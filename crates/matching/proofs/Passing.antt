@@ -43,8 +43,8 @@ module _ (L : Rankings) (P : List ℕ) (w : Which) (i : ℕ) where
       let frees = unless_none (free P i n) (SiteTaken w i) (none_second b d rest) in
       record {
         exists = leb-true n (size L Site) (unless_none (leb n (size L Site)) (NoSuchSite w i) (none_first a (or_else b d) e));
-        listed = λ j f. ltb-true _ _ (subst (λ k. named (ranks L Crew i) k ≡ true) f names);
-        first = λ j f. leb-true _ _ (subst (λ k. free P i k ≡ true) f frees);
+        listed = λ j f. ltb-true _ _ (rw f at names);
+        first = λ j f. leb-true _ _ (rw f at frees);
       }
 
   pub passing_crew : CrewPasses L P i → crew_fault L P w i ≡ None

@@ -1,6 +1,5 @@
-use Rattle.std.proofs.Common.{◌≡◌, length, None, sym, subst, arith}
+use Rattle.std.proofs.Common.{◌≡◌, length, sym, subst, arith}
 use Rattle.std.proofs.lemmas.Result.{err_from_is_err_and}
-use Rattle.lists.specs.Order.{earliest}
 use Rattle.lists.specs.declared.parties.Side.TheVariants.{Site}
 use Rattle.matching.specs.Checks.{crew_fault, TakenBelow}
 use Rattle.lists.proofs.Earliest.{earliest_none, earliest_step, earliest_found}
@@ -43,4 +42,4 @@ returns g c =
     let L = g.L.Lists.meaning c.args.self.now.lists in
     let P = c.args.self.now.plan.now in
     let all : c.loop-crew.crew ≡ length P = omega arith in
-    ok_granted _ tt (subst (λ n. earliest n (crew_fault L P c.args.self.now.which) ≡ None) all c.loop-crew.invariant.1)
+    ok_granted _ tt (rw all at c.loop-crew.invariant.1)
