@@ -13,7 +13,7 @@ use Rattle.matching.proofs.Balances.{balance_turned}
 
 -- of two partners at most one is liked better
 likes_one : (xs : List ℕ) (p q : ℕ) → likes xs p q ≡ true → likes xs q p ≡ false
-likes_one xs zero q e = absurd (let z : ◌≡◌ {A = ℕ} 0 1 = cc in omega arith)
+likes_one xs zero q e = cc
 likes_one xs (suc p) zero e = refl
 likes_one xs (suc p) (suc q) e = grind (arith, nat_tests)
 

@@ -1,7 +1,7 @@
 -- What the checks of a plan find, crew by crew and as a whole.
-use Rattle.std.proofs.Common.{◌≡◌, ℕ, zero, suc, ◌+◌, ◌<◌, ◌≤◌, Bool, true, false, eqb, ltb, leb, List, length, get_or, set, replicate, Some, None, sym, refl, ap, ◌∙◌, subst, ⊎_elim, arith, length-set}
-use Rattle.std.proofs.lemmas.List.{get_or-set_same, get_or-set_other}
-use Rattle.std.proofs.lemmas.Bool.{cases_eq, eqb-true, leb-true, ltb-true, eq-eqb, ne_eqb, le-leb, lt-ltb, le-ltb, cond-false}
+use Rattle.std.proofs.Common.{◌≡◌, ℕ, zero, suc, ◌+◌, ◌<◌, ◌≤◌, Bool, true, false, eqb, ltb, leb, List, length, get_or, set, replicate, None, sym, refl, ap, ◌∙◌, subst, ⊎_elim, arith, length-set}
+use Rattle.std.proofs.lemmas.List.{get_or-replicate, get_or-set_same, get_or-set_other}
+use Rattle.std.proofs.lemmas.Bool.{cases_eq, eqb-true, leb-true, ltb-true, eq-eqb, le-leb, lt-ltb, le-ltb}
 use Rattle.std.proofs.lemmas.Bool.Decides.{nat_tests}
 use Rattle.lists.specs.Order.{or_else, unless}
 use Rattle.lists.specs.Rankings.{Rankings, ranks, place, size}
@@ -16,17 +16,14 @@ use Rattle.matching.proofs.Partners.{within_plan}
 
 unless_none : {X : Type 0} (t : Bool) (x : X) → unless t x ≡ None → t ≡ true
 unless_none true x e = refl
-unless_none false x e = absurd (let z : ◌≡◌ {A = ℕ} 0 1 = cc in omega arith)
+unless_none false x e = cc
 
 none_unless : {X : Type 0} (t : Bool) (x : X) → t ≡ true → unless t x ≡ None
 none_unless t x e = rw e refl
 
 module _ (L : Rankings) (xs : List ℕ) (w : Which) where
-  pub length_passes : length xs ≡ size L Crew → length_fault L xs w ≡ None
+  length_passes : length xs ≡ size L Crew → length_fault L xs w ≡ None
   length_passes e = none_unless (eqb (length xs) (size L Crew)) (HandedLength w) (eq-eqb (length xs) (size L Crew) e)
-
-  pub length_fails : (length xs ≡ size L Crew → ⊥) → length_fault L xs w ≡ Some (HandedLength w)
-  length_fails d = cond-false (eqb (length xs) (size L Crew)) None (Some (HandedLength w)) (ne_eqb (length xs) (size L Crew) d)
 
 -- what passing tells of a crew
 pub record CrewPasses (L : Rankings) (P : List ℕ) (i : ℕ) : Type 0 where
@@ -46,8 +43,8 @@ module _ (L : Rankings) (P : List ℕ) (w : Which) (i : ℕ) where
       let frees = unless_none (free P i n) (SiteTaken w i) (none_second b d rest) in
       record {
         exists = leb-true n (size L Site) (unless_none (leb n (size L Site)) (NoSuchSite w i) (none_first a (or_else b d) e));
-        listed = λ j f. ltb-true _ _ (subst (λ k. named (ranks L Crew i) k ≡ true) f names);
-        first = λ j f. leb-true _ _ (subst (λ k. free P i k ≡ true) f frees);
+        listed = λ j f. ltb-true _ _ (rw f at names);
+        first = λ j f. leb-true _ _ (rw f at frees);
       }
 
   pub passing_crew : CrewPasses L P i → crew_fault L P w i ≡ None
@@ -101,13 +98,8 @@ passing_is_a_plan L lawful P w = (sound, passing)
 pub taken_none : (P : List ℕ) (sites : List Bool) → sites ≡ replicate 500 false → TakenBelow P 0 sites
 taken_none P sites e = record {
   sized = ap length e;
-  each = λ j _. ap (λ v. get_or v j false) e ∙ replicated 500 j ∙ sym (le-ltb (place P (suc j)) 0 (omega arith));
+  each = λ j h. ap (λ v. get_or v j false) e ∙ get_or-replicate 500 j false false h ∙ sym (le-ltb (place P (suc j)) 0 (omega arith));
 }
-  where
-    replicated : (n j : ℕ) → get_or (replicate n false) j false ≡ false
-    replicated zero j = refl
-    replicated (suc n) zero = refl
-    replicated (suc n) (suc j) = replicated n j
 
 -- a crew takes its site
 pub taken_more : (P : List ℕ) (i : ℕ) (sites : List Bool) → i < length P → get_or P i 0 ≤ 500 → TakenBelow P i sites → TakenBelow P (i + 1) (with_taken sites (get_or P i 0))

@@ -1,20 +1,22 @@
 -- The plan read off a stable plan of the two-level lists is a plan on the lists and keeps the level rules.
-use Rattle.std.proofs.Common.{◌≡◌, ℕ, zero, suc, ◌<◌, ◌≤◌, true, false, eqb, leb, ◌⊎◌, List, [], ◌∷◌, length, get_or, sym, refl, ap, ◌∙◌, subst, inl, inr, ⊎_elim, arith}
+use Rattle.std.proofs.Common.{◌≡◌, ℕ, zero, suc, ◌<◌, ◌≤◌, true, false, eqb, ltb, ◌⊎◌, List, [], ◌∷◌, length, get_or, Some, None, sym, refl, ap, ◌∙◌, subst, inl, inr, ⊎_elim, arith}
+use Rattle.std.specs.Option.{option_or}
 use Rattle.std.proofs.lemmas.List.FromFn.{length-map-range_with_len, get_or-map-range_with_len}
-use Rattle.std.proofs.lemmas.Bool.{cases_Bool, cases_eq, cond-true, cond-false, eq-eqb, ne_eqb, le-leb, lt-leb, ltb-true}
+use Rattle.std.proofs.lemmas.Bool.{cases_Bool, cases_eq, cond-true, cond-false, eq-eqb, ne_eqb, lt-ltb, le-ltb, ltb-true}
 use Rattle.lists.specs.Rankings.{Rankings, Lawful, Names, ranks, place, size}
 use Rattle.lists.specs.declared.parties.Side.TheVariants.{Crew, Site}
 use Rattle.matching.specs.Deferred.{crew_best_of}
 use Rattle.matching.specs.Levels.{LevelRules, level_of, level_held, favours}
-use Rattle.matching.specs.Plans.{With, Listed, PlanOn, partner_of}
-use Rattle.matching.specs.Settled.{real_site_of, either_site, site_by_copies, level_by_copies, sites_in, levels_in, settled_plan_of, settled_levels_of, SettledPlanIsDominant}
+use Rattle.matching.specs.Plans.{With, Listed, PlanOn, partner_of, number_written, site_written}
+use Rattle.matching.specs.Settled.{real_site_of, partner_in, site_by_copies, level_by_copies, sites_in, levels_in, settled_plan_of, settled_levels_of, SettledPlanIsDominant}
 use Rattle.matching.specs.Stability.{Rather, Stable}
-use Rattle.matching.specs.TwoLevels.{lower, upper, stand_in_of, lower_list, upper_list, split_list, own_list, fits_two_levels, crew_total, two_levels_of}
+use Rattle.matching.specs.TwoLevels.{lower, upper, stand_in_of, lower_list, upper_list, own_list, fits_two_levels, crew_total, two_levels_of}
 use Rattle.matching.specs.Votes.{likes}
 use Rattle.matching.specs.Evidence.Halves.{lower_not_upper}
-use Rattle.matching.specs.Evidence.TwoLevels.{Sized, sized, by_crew, size_crews, ranks_crew, ranks_site, crew_lower, crew_upper, site_split, site_own, place_split_lower, place_split_upper, place_own_lower, place_own_upper, length_lower, place_lower, place_lower_own, place_upper, place_upper_own, two_levels_lawful}
+use Rattle.matching.specs.Evidence.TwoLevels.{Sized, sized, by_crew, size_crews, place_split_lower, place_split_upper, place_own_lower, place_own_upper, length_lower, place_lower, place_lower_own, place_upper, place_upper_own, two_levels_lawful}
 use Rattle.matching.specs.Evidence.Joins.{each_join, each_one, each_named}
 use Rattle.matching.proofs.Partners.{naming, within_plan, partner_with, with_partner}
+use Rattle.matching.proofs.RoleLists.{ranks_lower, ranks_upper, ranks_real, ranks_own}
 use Rattle.matching.proofs.Deferral.{deferred_best}
 use Rattle.matching.proofs.Dominance.{levelled_dominant}
 use Rattle.matching.proofs.Steps.{named}
@@ -42,18 +44,6 @@ module _ {L : Rankings} (lawful : Lawful L) (few : fits_two_levels L ≡ true) w
   z : Sized L
   z = sized L few
 
-  ranks_lower : (i : ℕ) → i < size L Crew → ranks L₂ Crew (lower i) ≡ lower_list L i
-  ranks_lower i h = ranks_crew L (lower i) (omega (arith, z.crews_are)) ∙ crew_lower L i
-
-  ranks_upper : (i : ℕ) → i < size L Crew → ranks L₂ Crew (upper i) ≡ upper_list L i
-  ranks_upper i h = ranks_crew L (upper i) (omega (arith, z.crews_are)) ∙ crew_upper L i
-
-  ranks_real : (j : ℕ) → j < size L Site → ranks L₂ Site j ≡ split_list (ranks L Site j)
-  ranks_real j h = ranks_site L j (omega (arith, z.sites_are)) ∙ site_split L j h
-
-  ranks_own : (i : ℕ) → i < size L Crew → ranks L₂ Site (stand_in_of L i) ≡ own_list i
-  ranks_own i h = ranks_site L (stand_in_of L i) (omega (arith, z.sites_are)) ∙ site_own L i
-
   named_real : (i j : ℕ) → Names L Crew i j → j < size L Site
   named_real i j n = naming L Site j i (lawful.returned Crew i j n)
 
@@ -62,69 +52,59 @@ module _ {L : Rankings} (lawful : Lawful L) (few : fits_two_levels L ≡ true) w
   both_list x y n = (n, (two_levels_lawful lawful).returned Crew x y n)
 
   listed_copy : (a i j : ℕ) → Names L Crew i j → Listed L₂ (copy a i) j
-  listed_copy zero i j n = both_list (lower i) j (subst (λ xs. place xs j < length xs) (sym (ranks_lower i (naming L Crew i j n)))
-      (let p = place_lower lawful i j n in let l = length_lower lawful i in omega arith))
-  listed_copy (suc a) i j n = both_list (upper i) j (subst (λ xs. place xs j < length xs) (sym (ranks_upper i (naming L Crew i j n)))
-      (let real = named_real i j n in let p = place_upper lawful i j (λ e. omega arith) in omega arith))
+  listed_copy zero i j n = both_list (lower i) j (rw (ranks_lower L z i (naming L Crew i j n)) (omega (arith, place_lower lawful i j n, length_lower lawful i)))
+  listed_copy (suc a) i j n = let real = named_real i j n in both_list (upper i) j (rw (ranks_upper L z i (naming L Crew i j n)) (omega (arith, place_upper lawful i j (λ e. omega arith))))
 
   listed_own : (a i : ℕ) → i < size L Crew → Listed L₂ (copy a i) (stand_in_of L i)
-  listed_own zero i h = both_list (lower i) (stand_in_of L i) (subst (λ xs. place xs (stand_in_of L i) < length xs) (sym (ranks_lower i h))
-      (let p = place_lower_own lawful i in let l = length_lower lawful i in omega arith))
-  listed_own (suc a) i h = both_list (upper i) (stand_in_of L i) (subst (λ xs. place xs (stand_in_of L i) < length xs) (sym (ranks_upper i h))
-      (let p = place_upper_own lawful i in omega arith))
+  listed_own zero i h = both_list (lower i) (stand_in_of L i) (rw (ranks_lower L z i h) (omega (arith, place_lower_own lawful i, length_lower lawful i)))
+  listed_own (suc a) i h = both_list (upper i) (stand_in_of L i) (rw (ranks_upper L z i h) (omega (arith, place_upper_own lawful i)))
 
   -- whom a crew of the two-level lists can have: a site that the crew names, or the stand-in
-  names_copy : (a i y : ℕ) → i < size L Crew → Names L₂ Crew (copy a i) y → (y ≡ stand_in_of L i) ⊎ Names L Crew i y
-  names_copy zero i y h n =
-      let m = subst (λ xs. place xs y < length xs) (ranks_lower i h) n in
-      each_named (λ v. (v ≡ stand_in_of L i) ⊎ Names L Crew i v) (lower_list L i)
-      (each_join (λ v. (v ≡ stand_in_of L i) ⊎ Names L Crew i v) (ranks L Crew i) (stand_in_of L i ∷ []) (λ k l. inr (named L lawful Crew i k l)) (each_one (λ v. (v ≡ stand_in_of L i) ⊎ Names L Crew i v) (stand_in_of L i) (inl refl))) y m
-  names_copy (suc a) i y h n =
-      let m = subst (λ xs. place xs y < length xs) (ranks_upper i h) n in
-      each_named (λ v. (v ≡ stand_in_of L i) ⊎ Names L Crew i v) (upper_list L i)
-      (each_join (λ v. (v ≡ stand_in_of L i) ⊎ Names L Crew i v) (stand_in_of L i ∷ []) (ranks L Crew i) (each_one (λ v. (v ≡ stand_in_of L i) ⊎ Names L Crew i v) (stand_in_of L i) (inl refl)) (λ k l. inr (named L lawful Crew i k l))) y m
+  abbrev CanHave : ℕ → ℕ → Type 0
+  CanHave i v = (v ≡ stand_in_of L i) ⊎ Names L Crew i v
+
+  own_had : (i k : ℕ) → k < length (stand_in_of L i ∷ []) → CanHave i (get_or (stand_in_of L i ∷ []) k 0)
+  own_had i = each_one (CanHave i) (stand_in_of L i) (inl refl)
+
+  names_copy : (a i y : ℕ) → i < size L Crew → Names L₂ Crew (copy a i) y → CanHave i y
+  names_copy zero i y h n = each_named (CanHave i) (lower_list L i)
+      (each_join (CanHave i) (ranks L Crew i) (stand_in_of L i ∷ []) (λ k l. inr (named L lawful Crew i k l)) (own_had i)) y (rw (ranks_lower L z i h) at n)
+  names_copy (suc a) i y h n = each_named (CanHave i) (upper_list L i)
+      (each_join (CanHave i) (stand_in_of L i ∷ []) (ranks L Crew i) (own_had i) (λ k l. inr (named L lawful Crew i k l))) y (rw (ranks_upper L z i h) at n)
 
   -- a crew ranks the sites that it names in the same order at both levels
   crew_order : (a i j k : ℕ) → Names L Crew i j → Names L Crew i k → place (ranks L Crew i) j < place (ranks L Crew i) k →
       place (ranks L₂ Crew (copy a i)) j < place (ranks L₂ Crew (copy a i)) k
-  crew_order zero i j k nj nk h = subst (λ xs. place xs j < place xs k) (sym (ranks_lower i (naming L Crew i j nj)))
-      (let p = place_lower lawful i j nj in let q = place_lower lawful i k nk in omega arith)
-  crew_order (suc a) i j k nj nk h = subst (λ xs. place xs j < place xs k) (sym (ranks_upper i (naming L Crew i j nj)))
-      (let rj = named_real i j nj in let rk = named_real i k nk in
-      let p = place_upper lawful i j (λ e. omega arith) in let q = place_upper lawful i k (λ e. omega arith) in omega arith)
+  crew_order zero i j k nj nk h = rw (ranks_lower L z i (naming L Crew i j nj)) (omega (arith, place_lower lawful i j nj, place_lower lawful i k nk))
+  crew_order (suc a) i j k nj nk h = let rj = named_real i j nj in let rk = named_real i k nk in rw (ranks_upper L z i (naming L Crew i j nj)) (omega (arith, place_upper lawful i j (λ e. omega arith), place_upper lawful i k (λ e. omega arith)))
 
   -- a lower crew ranks its stand-in last
   own_last : (i j : ℕ) → Names L Crew i j → place (ranks L₂ Crew (lower i)) j < place (ranks L₂ Crew (lower i)) (stand_in_of L i)
-  own_last i j n = subst (λ xs. place xs j < place xs (stand_in_of L i)) (sym (ranks_lower i (naming L Crew i j n)))
-      (let p = place_lower lawful i j n in let q = place_lower_own lawful i in omega arith)
+  own_last i j n = rw (ranks_lower L z i (naming L Crew i j n)) (omega (arith, place_lower lawful i j n, place_lower_own lawful i))
 
   -- an upper crew ranks its stand-in first
   own_first : (i y : ℕ) → i < size L Crew → (stand_in_of L i ≡ y → ⊥) → place (ranks L₂ Crew (upper i)) (stand_in_of L i) < place (ranks L₂ Crew (upper i)) y
-  own_first i y h n = subst (λ xs. place xs (stand_in_of L i) < place xs y) (sym (ranks_upper i h))
-      (let p = place_upper_own lawful i in let q = place_upper lawful i y n in omega arith)
+  own_first i y h n = rw (ranks_upper L z i h) (omega (arith, place_upper_own lawful i, place_upper lawful i y n))
 
   -- a site ranks upper crews before lower ones, and those of a level in its own order
   upper_before : (i k j : ℕ) → Names L Site j i → place (ranks L₂ Site j) (upper i) < place (ranks L₂ Site j) (lower k)
-  upper_before i k j n = subst (λ xs. place xs (upper i) < place xs (lower k)) (sym (ranks_real j (naming L Site j i n)))
-      (let p = place_split_upper (ranks L Site j) i n in let q = place_split_lower (ranks L Site j) k in omega arith)
+  upper_before i k j n = rw (ranks_real L z j (naming L Site j i n)) (omega (arith, place_split_upper (ranks L Site j) i n, place_split_lower (ranks L Site j) k))
 
   site_order : (a i k j : ℕ) → Names L Site j i → Names L Site j k → place (ranks L Site j) i < place (ranks L Site j) k →
       place (ranks L₂ Site j) (copy a i) < place (ranks L₂ Site j) (copy a k)
-  site_order zero i k j ni nk h = subst (λ xs. place xs (lower i) < place xs (lower k)) (sym (ranks_real j (naming L Site j i ni)))
-      (let p = place_split_lower (ranks L Site j) i in let q = place_split_lower (ranks L Site j) k in omega arith)
-  site_order (suc a) i k j ni nk h = subst (λ xs. place xs (upper i) < place xs (upper k)) (sym (ranks_real j (naming L Site j i ni)))
-      (let p = place_split_upper (ranks L Site j) i ni in let q = place_split_upper (ranks L Site j) k nk in omega arith)
+  site_order zero i k j ni nk h = rw (ranks_real L z j (naming L Site j i ni)) (omega (arith, place_split_lower (ranks L Site j) i, place_split_lower (ranks L Site j) k))
+  site_order (suc a) i k j ni nk h = rw (ranks_real L z j (naming L Site j i ni)) (omega (arith, place_split_upper (ranks L Site j) i ni, place_split_upper (ranks L Site j) k nk))
 
   -- a stand-in names only its own two crews, the lower one first
-  own_named : (i x : ℕ) → i < size L Crew → Names L₂ Site (stand_in_of L i) x → (x ≡ lower i) ⊎ (x ≡ upper i)
-  own_named i x h n =
-      each_named (λ v. (v ≡ lower i) ⊎ (v ≡ upper i)) (own_list i)
-      (each_join (λ v. (v ≡ lower i) ⊎ (v ≡ upper i)) (lower i ∷ []) (upper i ∷ [])
-      (each_one (λ v. (v ≡ lower i) ⊎ (v ≡ upper i)) (lower i) (inl refl)) (each_one (λ v. (v ≡ lower i) ⊎ (v ≡ upper i)) (upper i) (inr refl))) x
-      (subst (λ xs. place xs x < length xs) (ranks_own i h) n)
+  abbrev IsCopy : ℕ → ℕ → Type 0
+  IsCopy i v = (v ≡ lower i) ⊎ (v ≡ upper i)
+
+  own_named : (i x : ℕ) → i < size L Crew → Names L₂ Site (stand_in_of L i) x → IsCopy i x
+  own_named i x h n = each_named (IsCopy i) (own_list i)
+      (each_join (IsCopy i) (lower i ∷ []) (upper i ∷ []) (each_one (IsCopy i) (lower i) (inl refl)) (each_one (IsCopy i) (upper i) (inr refl))) x (rw (ranks_own L z i h) at n)
 
   own_order : (i : ℕ) → i < size L Crew → place (ranks L₂ Site (stand_in_of L i)) (lower i) < place (ranks L₂ Site (stand_in_of L i)) (upper i)
-  own_order i h = subst (λ xs. place xs (lower i) < place xs (upper i)) (sym (ranks_own i h)) (omega (arith, place_own_lower i, place_own_upper i))
+  own_order i h = rw (ranks_own L z i h) (omega (arith, place_own_lower i, place_own_upper i))
 
   -- what a stable plan of the two-level lists gives the two crews of one crew
   module _ (T : List ℕ) (stable : Stable L₂ T) where
@@ -148,7 +128,7 @@ module _ {L : Rankings} (lawful : Lawful L) (few : fits_two_levels L ≡ true) w
           listed_own 0 i h,
           (λ k w. absurd (omega arith)),
           (λ x w. let only = stable.plan.single (stand_in_of L i) (upper i) x up w in
-              subst (λ v. place (ranks L₂ Site (stand_in_of L i)) (lower i) < place (ranks L₂ Site (stand_in_of L i)) v) only (own_order i h)),
+              rw only at (own_order i h)),
         ))
         placed_at (suc j) e = (
           j,
@@ -168,18 +148,22 @@ module _ {L : Rankings} (lawful : Lawful L) (few : fits_two_levels L ≡ true) w
       pub names : (j : ℕ) → site_by_copies L T i ≡ suc j → Names L Crew i j
       pub placed : a ≡ 0 → site_by_copies L T i ≡ 0 → ⊥
 
-    real_site_is : (j : ℕ) → j < size L Site → real_site_of L (suc j) ≡ suc j
-    real_site_is j h = cond-true (leb (suc j) (size L Site)) (suc j) 0 (le-leb (suc j) (size L Site) h)
+    real_site_is : (j : ℕ) → j < size L Site → real_site_of L (Some j) ≡ Some j
+    real_site_is j h = cond-true (ltb j (size L Site)) (Some j) None (lt-ltb j (size L Site) h)
 
-    no_site : (i : ℕ) → real_site_of L (suc (stand_in_of L i)) ≡ 0
-    no_site i = cond-false (leb (suc (stand_in_of L i)) (size L Site)) (suc (stand_in_of L i)) 0 (lt-leb (suc (stand_in_of L i)) (size L Site) (omega arith))
+    no_site : (i : ℕ) → real_site_of L (Some (stand_in_of L i)) ≡ None
+    no_site i = cond-false (ltb (stand_in_of L i) (size L Site)) (Some (stand_in_of L i)) None (le-ltb (stand_in_of L i) (size L Site) (omega arith))
+
+    -- a number of the plan, with nobody in the place of a stand-in
+    abbrev kept_number : ℕ → ℕ
+    kept_number p = number_written (real_site_of L (site_written p))
 
     read_lower : (i : ℕ) → i < size L Crew → With T Crew (upper i) (stand_in_of L i) → Read i 0
     read_lower i h up =
         let down = lower_placed i h up in
         let real = real_site_is down.0 (named_real i down.0 down.2) in
-        let low : real_site_of L (get_or T (lower i) 0) ≡ suc down.0 = ap (real_site_of L) down.1 ∙ real in
-        let site : site_by_copies L T i ≡ suc down.0 = ap (λ p. either_site p (real_site_of L (get_or T (upper i) 0))) low in
+        let low : real_site_of L (partner_in T (lower i)) ≡ Some down.0 = ap (λ p. real_site_of L (site_written p)) down.1 ∙ real in
+        let site : site_by_copies L T i ≡ suc down.0 = ap (λ o. number_written (option_or o (real_site_of L (partner_in T (upper i))))) low in
         record {
           level = cond-true (eqb (get_or T (upper i) 0) (suc (stand_in_of L i))) 0 1 (eq-eqb (get_or T (upper i) 0) (suc (stand_in_of L i)) up);
           binary = omega arith;
@@ -193,8 +177,8 @@ module _ {L : Rankings} (lawful : Lawful L) (few : fits_two_levels L ≡ true) w
     read_upper : (i : ℕ) → i < size L Crew → (With T Crew (upper i) (stand_in_of L i) → ⊥) → Read i 1
     read_upper i h not-upper =
         let down = own_taken i h not-upper in
-        let low : real_site_of L (get_or T (lower i) 0) ≡ 0 = ap (real_site_of L) down ∙ no_site i in
-        let site : site_by_copies L T i ≡ real_site_of L (get_or T (upper i) 0) = ap (λ p. either_site p (real_site_of L (get_or T (upper i) 0))) low in
+        let low : real_site_of L (partner_in T (lower i)) ≡ None = ap (λ p. real_site_of L (site_written p)) down ∙ no_site i in
+        let site : site_by_copies L T i ≡ kept_number (get_or T (upper i) 0) = ap (λ o. number_written (option_or o (real_site_of L (partner_in T (upper i))))) low in
         let is = upper_real (get_or T (upper i) 0) refl in
         record {
           level = cond-false (eqb (get_or T (upper i) 0) (suc (stand_in_of L i))) 0 1 (ne_eqb (get_or T (upper i) 0) (suc (stand_in_of L i)) not-upper);
@@ -206,11 +190,11 @@ module _ {L : Rankings} (lawful : Lawful L) (few : fits_two_levels L ≡ true) w
           placed = λ e. absurd (omega arith);
         }
       where
-        upper_real : (p : ℕ) → get_or T (upper i) 0 ≡ p → (real_site_of L (get_or T (upper i) 0) ≡ get_or T (upper i) 0) × ((j : ℕ) → get_or T (upper i) 0 ≡ suc j → Names L Crew i j)
-        upper_real zero e = (ap (real_site_of L) e ∙ cond-true (leb 0 (size L Site)) 0 0 (le-leb 0 (size L Site) (omega arith)) ∙ sym e, (λ j f. absurd (omega arith)))
+        upper_real : (p : ℕ) → get_or T (upper i) 0 ≡ p → (kept_number (get_or T (upper i) 0) ≡ get_or T (upper i) 0) × ((j : ℕ) → get_or T (upper i) 0 ≡ suc j → Names L Crew i j)
+        upper_real zero e = (ap kept_number e ∙ sym e, (λ j f. absurd (omega arith)))
         upper_real (suc j) e =
             let n : Names L Crew i j = ⊎_elim (λ own. absurd (not-upper (e ∙ ap suc own))) (λ n. n) (names_copy 1 i j h (stable.plan.listed (upper i) j e).0) in
-            (ap (real_site_of L) e ∙ real_site_is j (named_real i j n) ∙ sym e, (λ k f. subst (Names L Crew i) (let s : j ≡ k = omega arith in s) n))
+            (ap kept_number e ∙ ap number_written (real_site_is j (named_real i j n)) ∙ sym e, (λ k f. subst (Names L Crew i) (let s : j ≡ k = omega arith in s) n))
 
     pub reading : (i : ℕ) → i < size L Crew → Read i (level_by_copies L T i)
     reading i h = ⊎_elim
@@ -274,7 +258,7 @@ module _ {L : Rankings} (lawful : Lawful L) (few : fits_two_levels L ≡ true) w
     -- a site would rather have a copy of a crew, if it ranks that before the copy of each crew that it may have
     site_rather : (a i j : ℕ) → j < size L Site → ((k : ℕ) → With P Crew k j → place (ranks L₂ Site j) (copy a i) < place (ranks L₂ Site j) (copy (level_by_copies L T k) k)) → Rather L₂ T Site j (copy a i)
     site_rather a i j real before x w = let o = holder j x real w in
-        subst (λ v. place (ranks L₂ Site j) (copy a i) < place (ranks L₂ Site j) v) (sym o.1) (before o.0 o.2)
+        rw o.1 (before o.0 o.2)
 
     -- the level of a site that a crew has
     site_level : (k j : ℕ) → With P Crew k j → level_of P K Site j ≡ level_by_copies L T k
@@ -304,13 +288,12 @@ module _ {L : Rankings} (lawful : Lawful L) (few : fits_two_levels L ≡ true) w
     -- the lower copy of a crew that a site of level 0 favours is ranked before the copy of whomever it has
     lower_wins : (i j : ℕ) → Names L Site j i → level_of P K Site j ≡ 0 → favours L P Site j i ≡ true →
         (k : ℕ) → With P Crew k j → place (ranks L₂ Site j) (copy 0 i) < place (ranks L₂ Site j) (copy (level_by_copies L T k) k)
-    lower_wins i j n low f k w = subst (λ b. place (ranks L₂ Site j) (copy 0 i) < place (ranks L₂ Site j) (copy b k)) (sym (lower_held j k w low))
-        (site_order 0 i k j n (settled_is_plan.listed k j w).1 (site_favours i j k w f))
+    lower_wins i j n low f k w = rw (lower_held j k w low) (site_order 0 i k j n (settled_is_plan.listed k j w).1 (site_favours i j k w f))
 
     pub settled_rules : LevelRules L P K
     settled_rules = record {
       whole = length-map-range_with_len (level_by_copies L T) 0 (size L Crew);
-      binary = λ i h. subst (λ k. k ≤ 1) (sym (level_at i h)) (reading i h).binary;
+      binary = λ i h. rw (level_at i h) (reading i h).binary;
       is_left_out = λ i h e. let r = reading i h in
           ⊎_elim (λ low. absurd (r.placed low (sym (site_at i h) ∙ e))) (λ up. level_at i h ∙ up) (zero_or_one (level_by_copies L T i) r.binary);
       both_for = λ i j apart crew site. (
@@ -327,7 +310,7 @@ module _ {L : Rankings} (lawful : Lawful L) (few : fits_two_levels L ≡ true) w
         both_crew i j both crew site = level_of_settled i j both.0 ∙ ⊎_elim (λ e. e)
             (λ e. absurd (stable.steady (copy 1 i) j (
               listed_copy 1 i j both.0,
-              subst (λ a. Rather L₂ T Crew (copy a i) j) e (crew_rather i j both.0 crew),
+              rw e at (crew_rather i j both.0 crew),
               site_rather 1 i j (named_real i j both.0) (λ k w. upper_wins i j k both.1 w site),
             )))
             (zero_or_one (level_by_copies L T i) (reading i (naming L Crew i j both.0)).binary)
@@ -347,7 +330,7 @@ module _ {L : Rankings} (lawful : Lawful L) (few : fits_two_levels L ≡ true) w
               listed_copy 1 i j both.0,
               subst (λ a. Rather L₂ T Crew (copy a i) j) (sym (level_of_settled i j both.0) ∙ up) (crew_rather i j both.0 crew),
               site_rather 1 i j (named_real i j both.0)
-                  (λ k w. subst (λ b. place (ranks L₂ Site j) (copy 1 i) < place (ranks L₂ Site j) (copy b k)) (sym (lower_held j k w low)) (upper_before i k j both.1)),
+                  (λ k w. rw (lower_held j k w low) (upper_before i k j both.1)),
             )))
             (λ e. e) (cases_Bool (favours L P Crew i j))
 
@@ -357,7 +340,7 @@ module _ {L : Rankings} (lawful : Lawful L) (few : fits_two_levels L ≡ true) w
               listed_copy 0 i j both.0,
               (λ k w. let own = (reading i (naming L Crew i j both.0)).spare (sym (level_of_settled i j both.0) ∙ up) in
                   let is : stand_in_of L i ≡ k = omega arith in
-                  subst (λ v. place (ranks L₂ Crew (lower i)) j < place (ranks L₂ Crew (lower i)) v) is (own_last i j both.0)),
+                  rw is at (own_last i j both.0)),
               site_rather 0 i j (named_real i j both.0) (lower_wins i j both.1 low site),
             )))
             (λ e. e) (cases_Bool (favours L P Site j i))

@@ -27,11 +27,11 @@ module _ (L : Rankings) (lawful : Lawful L) where
   never_lost Q stable x y j r apart asked entry before kept has =
       let ys = ranks L Crew y in
       let at : place ys j ≡ r = place_at ys (distinct Crew y) j r asked entry in
-      let listed : Listed L y j = subst (λ v. Listed L y v) entry (listed_entry y r asked) in
+      let listed : Listed L y j = rw entry at (listed_entry y r asked) in
       stable.steady y j (
         listed,
         (λ k with-k. rather k with-k (cases_lt (place ys j) (place ys k))),
-        (λ i with-i. subst (λ v. place (ranks L Site j) y < place (ranks L Site j) v) (stable.plan.single j x i has with-i) before),
+        (λ i with-i. rw (stable.plan.single j x i has with-i) at before),
       )
     where
       rather : (k : ℕ) → With Q Crew y k → (place (ranks L Crew y) j < place (ranks L Crew y) k) ⊎ (place (ranks L Crew y) k ≤ place (ranks L Crew y) j) →
@@ -43,17 +43,17 @@ module _ (L : Rankings) (lawful : Lawful L) where
           let listed = (stable.plan.listed y k w).0 in
           let found : get_or ys (place ys k) 0 ≡ k = get_or_place ys k listed in
           ⊎_elim
-          (λ lower. absurd (kept (place ys k) lower (subst (λ v. With Q Crew y v) (sym found) w)))
+          (λ lower. absurd (kept (place ys k) lower (rw found w)))
           (λ same. let e : place ys k ≡ r = omega arith in
           let is : k ≡ j = sym found ∙ ap (λ p. get_or ys p 0) e ∙ entry in
-          absurd (apart (stable.plan.single j x y has (subst (λ v. With Q Crew y v) is w))))
+          absurd (apart (stable.plan.single j x y has (rw is at w))))
           (cases_lt (place ys k) r)
 
 -- a fact of what every site holds, where one site has taken a crew and every other holds what it held
 by_site : (holder holder' : ℕ → ℕ) (j y : ℕ) → holder' j ≡ suc y → ((s : ℕ) → (s ≡ j → ⊥) → holder' s ≡ holder s) → (P : ℕ → ℕ → Type 0) →
     ((i : ℕ) → i ≡ y → P j i) → ((s i : ℕ) → (s ≡ j → ⊥) → holder s ≡ suc i → P s i) → (s i : ℕ) → holder' s ≡ suc i → P s i
 by_site holder holder' j y taken as-held P here there s i e =
-    ⊎_elim (λ same. subst (λ v. P v i) (sym same) (here i (let t : holder' j ≡ suc i = subst (λ v. holder' v ≡ suc i) same e in omega arith)))
+    ⊎_elim (λ same. rw same (here i (let t : holder' j ≡ suc i = rw same at e in omega arith)))
     (λ other. there s i other (sym (as-held s other) ∙ e)) (cases_eq s j)
 
 -- what changes where one crew is refused: its count, and the site's hold
@@ -78,13 +78,13 @@ module _ (L : Rankings) (lawful : Lawful L) (refusals holder rank refusals' hold
 
   refused_next : (i k : ℕ) → k < refusals' i → ((i ≡ x) × (k ≡ refusals x)) ⊎ (k < refusals i)
   refused_next i k h = ⊎_elim
-      (λ e. ⊎_elim (λ l. inr (subst (λ v. k < refusals v) (sym e) l))
+      (λ e. ⊎_elim (λ l. inr (rw e l))
       (λ l. inl (e, (let m : k < suc (refusals x) = subst (λ v. k < v) (ap refusals' e ∙ one_more) h in omega arith))) (cases_lt k (refusals x)))
-      (λ d. inr (subst (λ v. k < v) (as-often i d) h)) (cases_eq i x)
+      (λ d. inr (rw (as-often i d) at h)) (cases_eq i x)
 
   still_engaged : (i : ℕ) → i < n → (i ≡ x → ⊥) → refusals i < length (ranks L Crew i) → holder' (get_or (ranks L Crew i) (refusals i) 0) ≡ suc i
   still_engaged i h d m = ⊎_elim
-      (λ e. subst (λ v. holder' (get_or (ranks L Crew v) (refusals v) 0) ≡ suc v) (sym e) (ap holder' y-at ∙ taken))
+      (λ e. rw e (ap holder' y-at ∙ taken))
       (λ f. let site = get_or (ranks L Crew i) (refusals i) 0 in
       let old : holder site ≡ suc i = before.engaged i h (asker i d f) m in
       ⊎_elim (λ same. absurd (⊎_elim d f (held i (ap holder (sym same) ∙ old)))) (λ other. as-held site other ∙ old) (cases_eq site j))
@@ -96,13 +96,12 @@ module _ (L : Rankings) (lawful : Lawful L) (refusals holder rank refusals' hold
 
   still_beaten : (i k : ℕ) → k < refusals' i → Beaten (get_or (ranks L Crew i) k 0) i
   still_beaten i k h = ⊎_elim
-      (λ e. subst (λ v. Beaten (get_or (ranks L Crew v) k 0) v) (sym e.0) (subst (λ v. Beaten (get_or (ranks L Crew x) v 0) x) (sym e.1)
-      (subst (λ v. Beaten v x) (sym x-at) (y, taken, better))))
+      (λ e. rw e.0 (rw e.1 (rw x-at (y, taken, better))))
       (λ l. let old = before.refused i k l in let site = get_or (ranks L Crew i) k 0 in
       ⊎_elim
-      (λ same. let first = subst (λ v. place (ranks L Site v) old.0 < place (ranks L Site v) i) same old.2 in
+      (λ same. let first = rw same at old.2 in
       let no-later = no-worse old.0 (ap holder (sym same) ∙ old.1) in
-      subst (λ v. Beaten v i) (sym same) (y, taken, omega arith))
+      rw same (y, taken, omega arith))
       (λ other. (old.0, as-held site other ∙ old.1, old.2))
       (cases_eq site j))
       (refused_next i k h)
@@ -110,20 +109,19 @@ module _ (L : Rankings) (lawful : Lawful L) (refusals holder rank refusals' hold
   pub refused_step : Asking L refusals' holder' rank' n x
   refused_step = record {
     reach = λ i. ⊎_elim
-        (λ e. subst (λ v. refusals' v ≤ length (ranks L Crew v)) (sym e) (omega arith))
-        (λ d. subst (λ v. v ≤ length (ranks L Crew i)) (sym (as-often i d)) (before.reach i)) (cases_eq i x);
-    engaged = λ i h d m. ap (λ v. holder' (get_or (ranks L Crew i) v 0)) (as-often i d) ∙ still_engaged i h d (subst (λ v. v < length (ranks L Crew i)) (as-often i d) m);
-    begun = held_fact (λ s i. i < n) (λ i e. subst (λ v. v < n) (sym e) winner-begun) (λ s i other e. before.begun s i e);
+        (λ e. rw e (omega arith))
+        (λ d. rw (as-often i d) (before.reach i)) (cases_eq i x);
+    engaged = λ i h d m. ap (λ v. holder' (get_or (ranks L Crew i) v 0)) (as-often i d) ∙ still_engaged i h d (rw (as-often i d) at m);
+    begun = held_fact (λ s i. i < n) (λ i e. rw e winner-begun) (λ s i other e. before.begun s i e);
     answered = not_refused;
-    asked = λ s i e. subst (λ v. v < length (ranks L Crew i)) (sym (as-often i (not_refused s i e)))
-        (held_fact (λ s i. refusals i < length (ranks L Crew i)) (λ i e. subst (λ v. refusals v < length (ranks L Crew v)) (sym e) y-asked) (λ s i _ e. before.asked s i e) s i e);
+    asked = λ s i e. rw (as-often i (not_refused s i e)) (held_fact (λ s i. refusals i < length (ranks L Crew i)) (λ i e. rw e y-asked) (λ s i _ e. before.asked s i e) s i e);
     holds = λ s i e. ap (λ v. get_or (ranks L Crew i) v 0) (as-often i (not_refused s i e)) ∙
-        held_fact (λ s i. get_or (ranks L Crew i) (refusals i) 0 ≡ s) (λ i e. subst (λ v. get_or (ranks L Crew v) (refusals v) 0 ≡ j) (sym e) y-at) (λ s i _ e. before.holds s i e) s i e;
+        held_fact (λ s i. get_or (ranks L Crew i) (refusals i) 0 ≡ s) (λ i e. rw e y-at) (λ s i _ e. before.holds s i e) s i e;
     noted = held_fact (λ s i. rank' s ≡ place (ranks L Site s) i) (λ i e. marked ∙ ap (place (ranks L Site j)) (sym e)) (λ s i other e. as-marked s other ∙ before.noted s i e);
     refused = still_beaten;
     unlost = λ Q stable i k h w. ⊎_elim
         (λ e. never_lost L lawful Q stable x y j (refusals y) apart y-asked y-at better (before.unlost Q stable y)
-        (subst (λ v. With Q Crew x v) x-at (subst (λ v. With Q Crew x (get_or (ranks L Crew x) v 0)) e.1 (subst (λ v. With Q Crew v (get_or (ranks L Crew v) k 0)) e.0 w))))
+        (rw x-at at (rw e.1 at (rw e.0 at w))))
         (λ l. before.unlost Q stable i k l w) (refused_next i k h);
   }
 
@@ -145,13 +143,13 @@ module _ (L : Rankings) (refusals holder rank holder' rank' : ℕ → ℕ) (n a 
   taken_step = record {
     reach = before.reach;
     engaged = λ i h _ m. ⊎_elim
-        (λ e. subst (λ v. holder' (get_or (ranks L Crew v) (refusals v) 0) ≡ suc v) (sym e) (ap holder' a_at ∙ taken))
+        (λ e. rw e (ap holder' a_at ∙ taken))
         (λ d. let old = before.engaged i h d m in as-held (get_or (ranks L Crew i) (refusals i) 0) (elsewhere (get_or (ranks L Crew i) (refusals i) 0) i old) ∙ old)
         (cases_eq i a);
     begun = taken_fact (λ s i. i < n) (λ i e. omega arith) (λ s i other e. before.begun s i e);
     answered = λ s i e f. let h = taken_fact (λ s i. i < n) (λ i e. omega arith) (λ s i other e. before.begun s i e) s i e in omega arith;
-    asked = taken_fact (λ s i. refusals i < length (ranks L Crew i)) (λ i e. subst (λ v. refusals v < length (ranks L Crew v)) (sym e) a-asked) (λ s i _ e. before.asked s i e);
-    holds = taken_fact (λ s i. get_or (ranks L Crew i) (refusals i) 0 ≡ s) (λ i e. subst (λ v. get_or (ranks L Crew v) (refusals v) 0 ≡ j) (sym e) a_at) (λ s i _ e. before.holds s i e);
+    asked = taken_fact (λ s i. refusals i < length (ranks L Crew i)) (λ i e. rw e a-asked) (λ s i _ e. before.asked s i e);
+    holds = taken_fact (λ s i. get_or (ranks L Crew i) (refusals i) 0 ≡ s) (λ i e. rw e a_at) (λ s i _ e. before.holds s i e);
     noted = taken_fact (λ s i. rank' s ≡ place (ranks L Site s) i) (λ i e. marked ∙ ap (place (ranks L Site j)) (sym e)) (λ s i other e. as-marked s other ∙ before.noted s i e);
     refused = λ i k h. let old = before.refused i k h in
         (old.0, as-held (get_or (ranks L Crew i) k 0) (elsewhere (get_or (ranks L Crew i) k 0) old.0 old.1) ∙ old.1, old.2);
@@ -164,7 +162,7 @@ module _ (L : Rankings) (refusals holder rank : ℕ → ℕ) (n : ℕ) where
   given_up a before all = record {
     reach = before.reach;
     engaged = λ i h _ m. ⊎_elim
-        (λ e. absurd (let o = subst (λ v. refusals v < length (ranks L Crew v)) e m in omega arith))
+        (λ e. absurd (let o = rw e at m in omega arith))
         (λ d. before.engaged i h d m) (cases_eq i a);
     begun = before.begun;
     answered = λ s i e f. let h = before.begun s i e in omega arith;

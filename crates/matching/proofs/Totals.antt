@@ -1,5 +1,5 @@
 -- Sums over the parties below a number.
-use Rattle.std.proofs.Common.{◌≡◌, ℕ, zero, suc, ◌+◌, ◌<◌, ◌≤◌, sym, subst, ⊎_elim, arith}
+use Rattle.std.proofs.Common.{◌≡◌, ℕ, zero, suc, ◌+◌, ◌<◌, ◌≤◌, ⊎_elim, arith}
 use Rattle.std.proofs.lemmas.Bool.{cases_eq}
 use Rattle.matching.specs.Sums.{total}
 
@@ -21,7 +21,7 @@ total_le (suc n) f g le =
 pub total_falls : (n : ℕ) (f g : ℕ → ℕ) (x : ℕ) → x < n → g x < f x → ((i : ℕ) → (i ≡ x → ⊥) → g i ≡ f i) → total n g < total n f
 total_falls zero f g x h less same = omega arith
 total_falls (suc n) f g x h less same = ⊎_elim
-    (λ e. let rest = total_same n g f (λ i b. same i (λ f. omega arith)) in let last : g n < f n = subst (λ v. g v < f v) e less in omega arith)
+    (λ e. let rest = total_same n g f (λ i b. same i (λ f. omega arith)) in let last : g n < f n = rw e at less in omega arith)
     (λ d. let rest = total_falls n f g x (omega arith) less same in let last = same n (λ f. d (omega arith)) in omega arith)
     (cases_eq x n)
 
@@ -37,6 +37,6 @@ total_bound (suc n) f g h each =
 pub total_zero : (n : ℕ) (f : ℕ → ℕ) → total n f ≡ 0 → (i : ℕ) → i < n → f i ≡ 0
 total_zero zero f none i l = absurd (omega arith)
 total_zero (suc n) f none i l = ⊎_elim
-    (λ e. let last : f n ≡ 0 = omega arith in subst (λ k. f k ≡ 0) (sym e) last)
+    (λ e. let last : f n ≡ 0 = omega arith in rw e last)
     (λ d. total_zero n f (omega arith) i (omega arith))
     (cases_eq i n)

@@ -1,12 +1,12 @@
 -- What deferred acceptance keeps while crews ask and sites answer.
-use Rattle.std.specs.Prelude.{◌≡◌, ℕ, suc, ◌-◌, ◌<◌, ◌≤◌, cond, List, length, Some, None, Option, ◌≢◌, nat_lt, slice_index, slice_index_or}
+use Rattle.std.specs.Prelude.{◌≡◌, ℕ, suc, ◌-◌, ◌<◌, ◌≤◌, cond, List, length, Some, None, Option, ◌≢◌, nat_lt, slice_index}
 use Rattle.lists.specs.Rankings.{Rankings, ranks, place, size}
 use Rattle.lists.specs.declared.parties.Side.TheVariants.{Crew, Site}
-use Rattle.matching.specs.Answers.{held_by, held_at}
+use Rattle.matching.specs.Answers.{refusals_in, holder_in, rank_in}
 use Rattle.matching.specs.Plans.{With}
 use Rattle.matching.specs.Stability.{Stable}
 use Rattle.matching.specs.Sums.{total}
-use Rattle.matching.specs.declared.proposals.Hold.{Hold}
+use Rattle.matching.specs.declared.proposals.Proposals.{Proposals}
 
 -- The state: how many entries have refused each crew, the crew that each site holds plus 1 or 0 for none,
 -- and the place of that crew in the site's list. The first n crews have begun, and crew a of them is asking;
@@ -31,25 +31,25 @@ pub record Asking (L : Rankings) (refusals holder rank : ℕ → ℕ) (n a : ℕ
   pub unlost : (Q : List ℕ) → Stable L Q → (i k : ℕ) → k < refusals i → With Q Crew i (slice_index (ranks L Crew i) k) → ⊥
 
 -- the same of the state as the program holds it, with room for 500 crews and 500 sites
-pub record AskingIn (L : Rankings) (refusals : List ℕ) (holds : List (Option Hold)) (n a : ℕ) : Type 0 where
-  pub crews : length refusals ≡ 500
-  pub sites : length holds ≡ 500
-  pub state : Asking L (λ i. slice_index refusals i) (λ j. held_by (slice_index_or holds j None)) (λ j. held_at (slice_index_or holds j None)) n a
+pub record AskingIn (L : Rankings) (p : Proposals) (n a : ℕ) : Type 0 where
+  pub crews : length p.refusals ≡ 500
+  pub sites : length p.holds ≡ 500
+  pub state : Asking L (refusals_in p) (holder_in p) (rank_in p) n a
 
 -- a crew that has begun is asking
-pub record Asks (L : Rankings) (refusals : List ℕ) (holds : List (Option Hold)) (n a : ℕ) : Type 0 where
+pub record Asks (L : Rankings) (p : Proposals) (n a : ℕ) : Type 0 where
   pub begun : a < n
   pub sized : n ≤ size L Crew
-  pub asking : AskingIn L refusals holds n a
+  pub asking : AskingIn L p n a
 
 -- how many entries have not refused their crew yet
-abbrev pub unrefused : Rankings → List ℕ → ℕ
-unrefused L refusals = total (size L Crew) (λ i. length (ranks L Crew i) - slice_index refusals i)
+abbrev pub unrefused : Rankings → Proposals → ℕ
+unrefused L p = total (size L Crew) (λ i. length (ranks L Crew i) - refusals_in p i)
 
 -- what a turn of the one asking leaves: nobody asking, or one that was refused
-abbrev pub Turned : Rankings → ℕ → ℕ → List ℕ → List (Option Hold) → Option ℕ → Type 0
-Turned L n before refusals holds None = AskingIn L refusals holds n n
-Turned L n before refusals holds (Some x) = Asks L refusals holds n x × (unrefused L refusals < before)
+abbrev pub Turned : Rankings → ℕ → ℕ → Proposals → Option ℕ → Type 0
+Turned L n before p None = AskingIn L p n n
+Turned L n before p (Some x) = Asks L p n x × (unrefused L p < before)
 
 -- what a crew has in the end: the entry that has not refused it, plus 1, or 0 where all have
 abbrev pub chosen : List ℕ → ℕ → ℕ

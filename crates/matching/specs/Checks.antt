@@ -11,7 +11,7 @@ use Rattle.matching.specs.Levels.{level_of, favours}
 use Rattle.matching.specs.Plans.{PlanOn}
 
 -- a plan, or levels, that are not one for each crew
-abbrev pub length_fault : Rankings → List ℕ → Which → Option Fault
+abbrev pub length_fault : {X : Type 0} → Rankings → List X → Which → Option Fault
 length_fault L xs w = unless (length xs == size L Crew) (HandedLength w)
 
 -- a list names the partner that is written, if any

@@ -1,12 +1,15 @@
 pub mod Acceptance
 pub mod Answers
 pub mod Checks
+pub mod Copies
 pub mod Deferred
 pub mod Leads
 pub mod Evidence
 pub mod Levels
 pub mod Plans
+pub mod Roles
 pub mod Settled
+pub mod Slots
 pub mod Stability
 pub mod StableCalls
 pub mod Sums

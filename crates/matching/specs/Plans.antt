@@ -1,9 +1,18 @@
 -- What a plan is: pairs of crews and sites, written as one number for each crew.
-use Rattle.std.specs.Prelude.{◌≡◌, ℕ, suc, Bool, cond, List, length, nat_lt, slice_index}
+use Rattle.std.specs.Prelude.{◌≡◌, ℕ, zero, suc, Bool, cond, List, length, Some, None, Option, nat_lt, slice_index}
 use Rattle.lists.specs.Rankings.{Rankings, Names, size, place}
 use Rattle.lists.specs.declared.parties.Side.{Side}
 use Rattle.lists.specs.declared.parties.Side.TheVariants.{Crew, Site}
 use Rattle.matching.specs.Sums.{tally}
+
+-- a plan has 0 for a crew without a site, and the site's number plus 1 for one with a site
+abbrev pub number_written : Option ℕ → ℕ
+number_written None = 0
+number_written (Some j) = suc j
+
+abbrev pub site_written : ℕ → Option ℕ
+site_written zero = None
+site_written (suc j) = Some j
 
 -- a plan has 0 for a crew that it leaves out, and the site's number plus 1 for one that it places
 abbrev pub With : List ℕ → Side → ℕ → ℕ → Type 0

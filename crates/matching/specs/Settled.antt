@@ -1,6 +1,7 @@
 -- The settled plan with its levels, as two-level lists and their crew-best stable plan give it.
-use Rattle.std.specs.Prelude.{◌≡◌, ℕ, zero, suc, true, cond, List, map, Some, None, Option, Result, ◌==◌, nat_le, slice_index}
+use Rattle.std.specs.Prelude.{◌≡◌, ℕ, suc, true, cond, List, map, Some, None, Option, Result, ◌==◌, nat_lt, slice_index}
 use Rattle.std.specs.List.{range_with_len}
+use Rattle.std.specs.Option.{option_or}
 use Rattle.lists.specs.Order.{or_else, unless, granted}
 use Rattle.lists.specs.Rankings.{Rankings, Lawful, size}
 use Rattle.lists.specs.declared.faults.Fault.{Fault}
@@ -10,23 +11,23 @@ use Rattle.lists.specs.declared.parties.Side.TheVariants.{Crew, Site}
 use Rattle.matching.specs.Checks.{length_fault}
 use Rattle.matching.specs.Deferred.{crew_best_of}
 use Rattle.matching.specs.Levels.{LevelRules}
-use Rattle.matching.specs.Plans.{PlanOn}
+use Rattle.matching.specs.Plans.{PlanOn, number_written, site_written}
 use Rattle.matching.specs.Stability.{TheCrewBest}
 use Rattle.matching.specs.TwoLevels.{lower, upper, stand_in_of, fits_two_levels, two_levels_of}
 use Rattle.matching.specs.Votes.{Dominant}
 
--- a partner as written, with nobody in the place of a stand-in
-abbrev pub real_site_of : Rankings → ℕ → ℕ
-real_site_of L p = cond (nat_le p (size L Site)) p 0
+-- a site of the two-level lists, with nobody in the place of a stand-in
+abbrev pub real_site_of : Rankings → Option ℕ → Option ℕ
+real_site_of L None = None
+real_site_of L (Some j) = cond (nat_lt j (size L Site)) (Some j) None
 
--- the first of two sites as written, or the second where there is no first
-abbrev pub either_site : ℕ → ℕ → ℕ
-either_site zero q = q
-either_site (suc j) q = suc j
+-- the partner that crew x has in a plan on the two-level lists
+abbrev pub partner_in : List ℕ → ℕ → Option ℕ
+partner_in T x = site_written (slice_index T x)
 
--- the site that crew i has in a plan on the two-level lists, by its lower or its upper crew
+-- what the plan read off has for crew i: the site of its lower or else of its upper crew
 abbrev pub site_by_copies : Rankings → List ℕ → ℕ → ℕ
-site_by_copies L T i = either_site (real_site_of L (slice_index T (lower i))) (real_site_of L (slice_index T (upper i)))
+site_by_copies L T i = number_written (option_or (real_site_of L (partner_in T (lower i))) (real_site_of L (partner_in T (upper i))))
 
 -- its level: 0 where the stand-in is with its upper crew, and 1 where it is not
 abbrev pub level_by_copies : Rankings → List ℕ → ℕ → ℕ

@@ -1,10 +1,12 @@
 // Whether numbers are a plan on lists, and the first fault where they are not.
-ghost use Rattle.std.specs.Prelude.{◌≡◌, ◌<◌, ◌≤◌, false, length, replicate};
+ghost use Rattle.std.specs.Prelude.{◌≡◌, ◌<◌, ◌≤◌, false, length, replicate, slice_index};
 ghost use Rattle.lists.specs.Order.{earliest, granted};
 ghost use Rattle.lists.specs.Rankings.{size};
-ghost use Rattle.matching.specs.Checks.{crew_fault, plan_fault, PassingIsBeingAPlan, TakenBelow, with_taken};
+ghost use Rattle.lists.specs.declared.parties.Side.TheVariants.{Crew};
+ghost use Rattle.matching.specs.Checks.{length_fault, crew_fault, plan_fault, PassingIsBeingAPlan, TakenBelow, with_taken};
 
 use crate::limits::MOST;
+use crate::plans::site_written;
 use lists::faults::{Fault, Which};
 use lists::interface::Lists;
 use lists::parties::{Party, Side};
@@ -27,64 +29,80 @@ impl Taken {
 
     // A crew takes the site that is written for it, if any.
     fn take(&mut self, number: u16)
-        requires { (number ≤ 500) × (length self.old.sites ≡ 500) }
+        requires { number ≤ 500 }
         ensures { self.new.sites ≡ with_taken self.old.sites number }
     {
-        if number > 0 {
-            self.sites[number as usize - 1] = true;
+        if let Some(site) = site_written(number) {
+            self.sites[usize::from(site)] = true;
         }
     }
 }
 
-// The fault of what is written for one crew, where the crews before it have taken theirs.
-fn check_crew<L: Lists>(
-    lists: &L,
-    taken: &Taken,
-    plan: &[u16],
-    crew: u16,
-    which: Which,
-) -> Result<(), Fault>
-    requires within { crew < length plan.now }
-    requires before { TakenBelow plan.now crew taken.now.sites }
-    ensures { result ≡ granted (crew_fault (L.Lists.meaning lists.now) plan.now which crew) tt }
+// Checks that a buffer has one entry for each crew.
+pub(crate) fn check_length<L: Lists, T>(lists: &L, buffer: &[T], which: Which) -> Result<(), Fault>
+    ensures { result ≡ granted (length_fault (L.Lists.meaning lists.now) buffer.now which) tt }
 {
-    let number = plan[crew as usize];
-    if number == 0 {
-        return Ok(());
+    if buffer.len() == usize::from(lists.count(Side::Crew)) {
+        Ok(())
+    } else {
+        Err(Fault::HandedLength { which })
     }
-    let site = number - 1;
-    if site >= lists.count(Side::Site) {
-        return Err(Fault::NoSuchSite { which, crew });
-    }
-    if lists.place(Party::crew(crew), site).is_none() {
-        return Err(Fault::PairNotListed { which, crew });
-    }
-    if taken.sites[site as usize] {
-        return Err(Fault::SiteTaken { which, crew });
-    }
-    Ok(())
 }
 
-// The first fault of what is written for the crews, one after the other.
-fn check_crews<L: Lists>(lists: &L, plan: &[u16], which: Which) -> Result<(), Fault>
-    requires { length plan.now ≡ size (L.Lists.meaning lists.now) Side.Crew }
-    ensures { result ≡ granted (earliest (length plan.now) (crew_fault (L.Lists.meaning lists.now) plan.now which)) tt }
-{
-    let mut taken = Taken::new();
-    for (crew, number) in plan.iter().enumerate() {
-        check_crew(lists, &taken, plan, crew as u16, which)?;
-        taken.take(*number);
+// Numbers that are checked to be a plan on lists, one for each crew.
+#[derive(Drop)]
+struct Checked<'a, L: Lists> {
+    lists: L,
+    plan: &'a [u16],
+    which: Which,
+    ghost whole: { length plan.now ≡ size (L.Lists.meaning lists) Crew },
+}
+
+impl<L: Lists> Checked<'_, L> {
+    // The fault of what is written for one crew, where the crews before it have taken theirs.
+    #[tactic(auto, using(crate::proofs::Few::few_parties))]
+    fn check_crew(&self, taken: &Taken, crew: u16, number: u16) -> Result<(), Fault>
+        requires within { crew < length self.now.plan.now }
+        requires written { number ≡ slice_index self.now.plan.now crew }
+        requires before { TakenBelow self.now.plan.now crew taken.now.sites }
+        ensures { result ≡ granted (crew_fault (L.Lists.meaning self.now.lists) self.now.plan.now self.now.which crew) tt }
+    {
+        let which = self.which;
+        let Some(site) = site_written(number) else {
+            return Ok(());
+        };
+        if site >= self.lists.count(Side::Site) {
+            return Err(Fault::NoSuchSite { which, crew });
+        }
+        if self.lists.place(Party::crew(crew), site).is_none() {
+            return Err(Fault::PairNotListed { which, crew });
+        }
+        if taken.sites[usize::from(site)] {
+            return Err(Fault::SiteTaken { which, crew });
+        }
+        Ok(())
     }
-    Ok(())
+
+    // The first fault of what is written for the crews, one after the other.
+    #[tactic(auto, using(crate::proofs::Few::few_parties))]
+    fn check_crews(&self) -> Result<(), Fault>
+        ensures { result ≡ granted (earliest (length self.now.plan.now) (crew_fault (L.Lists.meaning self.now.lists) self.now.plan.now self.now.which)) tt }
+    {
+        let mut taken = Taken::new();
+        for (crew, number) in self.plan.iter().enumerate() {
+            self.check_crew(&taken, crew as u16, *number)?;
+            taken.take(*number);
+        }
+        Ok(())
+    }
 }
 
 // Checks that numbers are a plan on lists.
+#[tactic(auto, using(crate::proofs::Passing::passing_is_a_plan))]
 pub fn check_plan<L: Lists>(lists: &L, plan: &[u16], which: Which) -> Result<(), Fault>
     ensures answer { result ≡ granted (plan_fault (L.Lists.meaning lists.now) plan.now which) tt }
     ensures meaning { PassingIsBeingAPlan }
 {
-    if plan.len() != lists.count(Side::Crew) as usize {
-        return Err(Fault::HandedLength { which });
-    }
-    check_crews(lists, plan, which)
+    check_length(lists, plan, which)?;
+    Checked { lists, plan, which }.check_crews()
 }

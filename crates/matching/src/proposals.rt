@@ -1,6 +1,7 @@
 // The state of deferred acceptance, which knows nothing of lists: the better crew stays, the other is refused.
-ghost use Rattle.std.specs.Prelude.{◌≡◌, ◌<◌, replicate, Some, None, slice_index, slice_index_or, slice_set};
-ghost use Rattle.matching.specs.Answers.{refused_of, kept_of, counted};
+ghost use Rattle.std.specs.Prelude.{◌≡◌, ◌<◌, Some};
+ghost use Rattle.std.specs.Option.{ForSome};
+ghost use Rattle.matching.specs.Answers.{refused_of, counted, unasked, hold_in, asked_of, HasRoom};
 
 use crate::limits::MOST;
 
@@ -22,7 +23,7 @@ pub(crate) struct Proposals {
 impl Proposals {
     // Nobody has asked anybody yet.
     pub(crate) fn new() -> Proposals
-        ensures { (result.refusals ≡ replicate 500 0) × (result.holds ≡ replicate 500 None) }
+        ensures { result ≡ unasked }
     {
         Proposals {
             refusals: [0; MOST],
@@ -32,32 +33,30 @@ impl Proposals {
 
     // One entry more has refused a crew.
     fn refuse(&mut self, crew: u16)
-        requires { (crew < 500) × (slice_index self.old.refusals crew < 500) }
-        ensures { (self.new.refusals ≡ counted self.old.refusals (Some crew)) × (self.new.holds ≡ self.old.holds) }
+        requires { HasRoom self.old crew }
+        ensures { self.new ≡ record self.old { refusals = counted self.old.refusals (Some crew) } }
     {
-        self.refusals[crew as usize] += 1;
+        self.refusals[usize::from(crew)] += 1;
     }
 
     // A crew asks a site that ranks it at a place: the answer is the crew that is refused, if any.
     pub(crate) fn ask(&mut self, crew: u16, site: u16, place: u16) -> Option<u16>
-        requires crew_within { crew < 500 }
-        requires site_within { site < 500 }
-        requires room { slice_index self.old.refusals crew < 500 }
-        requires held { (h : Hold) → slice_index_or self.old.holds site None ≡ Some h → (h.crew < 500) × (slice_index self.old.refusals h.crew < 500) }
-        ensures refused { result ≡ refused_of (slice_index_or self.old.holds site None) crew place }
-        ensures refusals { self.new.refusals ≡ counted self.old.refusals result }
-        ensures holds { self.new.holds ≡ slice_set self.old.holds site (kept_of (slice_index_or self.old.holds site None) crew place) }
+        requires crew { HasRoom self.old crew }
+        requires site { site < 500 }
+        requires held { ForSome (hold_in self.old site) (λ h. HasRoom self.old h.crew) }
+        ensures refused { result ≡ refused_of (hold_in self.old site) crew place }
+        ensures state { self.new ≡ asked_of self.old crew site place }
     {
-        let current = self.holds[site as usize];
+        let current = self.holds[usize::from(site)];
         let Some(held) = current else {
-            self.holds[site as usize] = Some(Hold { crew, place });
+            self.holds[usize::from(site)] = Some(Hold { crew, place });
             return None;
         };
         if held.place < place {
             self.refuse(crew);
             return Some(crew);
         }
-        self.holds[site as usize] = Some(Hold { crew, place });
+        self.holds[usize::from(site)] = Some(Hold { crew, place });
         self.refuse(held.crew);
         Some(held.crew)
     }

@@ -2,84 +2,88 @@
 ghost use Rattle.std.specs.Prelude.{◌≡◌, ◌*◌, ◌<◌, ◌≤◌, true, length};
 ghost use Rattle.lists.specs.Order.{granted};
 ghost use Rattle.lists.specs.Rankings.{size};
-ghost use Rattle.matching.specs.Settled.{real_site_of, site_by_copies, level_by_copies, sites_in, levels_in, settled_plan_of, settled_levels_of, settle_fault, SettleCall, SettledPlanIsDominant};
-ghost use Rattle.matching.specs.TwoLevels.{fits_two_levels};
+ghost use Rattle.lists.specs.declared.parties.Side.TheVariants.{Crew};
+ghost use Rattle.matching.specs.Copies.{number_of};
+ghost use Rattle.matching.specs.Plans.{number_written};
+ghost use Rattle.matching.specs.Settled.{partner_in, real_site_of, site_by_copies, level_by_copies, settled_plan_of, settled_levels_of, settle_fault, SettleCall, SettledPlanIsDominant};
+ghost use Rattle.matching.specs.TwoLevels.{fits_two_levels, two_levels_of};
 
+use crate::checks::check_length;
+use crate::copies::CrewCopy;
+use crate::crews::CrewBelow;
 use crate::limits::MOST;
+use crate::plans::{number_written, site_written, write_each};
 use crate::stable::pair;
 use crate::two_levels::{TwoLevel, few_enough};
 use lists::faults::{Fault, Which};
 use lists::interface::Lists;
 use lists::parties::Side;
 
-// A partner of the two-level lists as written, with nobody in the place of a stand-in.
-fn real_site<L: Lists>(lists: &L, partner: u16) -> u16
-    ensures { result ≡ real_site_of (L.Lists.meaning lists.now) partner }
-{
-    if partner <= lists.count(Side::Site) {
-        partner
-    } else {
-        0
-    }
+// A plan on two-level lists, from which the site and the level of each crew below are read off.
+#[derive(Drop)]
+struct Copies<'a, L: Lists> {
+    lists: L,
+    both: &'a [u16],
+    ghost whole: { length both.now ≡ 2 * size (L.Lists.meaning lists) Crew },
 }
 
-// The site that a crew has by its lower or its upper crew.
-fn site_in<L: Lists>(lists: &L, both: &[u16], crew: u16) -> u16
-    requires { (length both.now ≡ 2 * size (L.Lists.meaning lists.now) Side.Crew) × (crew < size (L.Lists.meaning lists.now) Side.Crew) }
-    ensures { result ≡ site_by_copies (L.Lists.meaning lists.now) both.now crew }
-{
-    let lower = real_site(lists, both[2 * crew as usize]);
-    if lower == 0 {
-        real_site(lists, both[2 * crew as usize + 1])
-    } else {
-        lower
+impl<L: Lists> Copies<'_, L> {
+    // The partner of a crew's copy.
+    #[tactic(auto, using(crate::proofs::Few::few_parties))]
+    fn partner(&self, copy: CrewCopy) -> Option<u16>
+        requires { number_of copy < length self.now.both.now }
+        ensures { result ≡ partner_in self.now.both.now (number_of copy) }
+    {
+        site_written(self.both[usize::from(copy.number())])
     }
-}
 
-// The level of a crew: 0 if its upper crew has the stand-in.
-fn level_in<L: Lists>(lists: &L, both: &[u16], crew: u16) -> u8
-    requires { (length both.now ≡ 2 * size (L.Lists.meaning lists.now) Side.Crew) × (crew < size (L.Lists.meaning lists.now) Side.Crew) }
-    ensures { result ≡ level_by_copies (L.Lists.meaning lists.now) both.now crew }
-{
-    let stand_in = lists.count(Side::Site) + crew;
-    if both[2 * crew as usize + 1] == stand_in + 1 {
-        0
-    } else {
-        1
+    // Its partner, with nobody in the place of a stand-in.
+    fn real_site(&self, copy: CrewCopy) -> Option<u16>
+        requires { number_of copy < length self.now.both.now }
+        ensures { result ≡ real_site_of (L.Lists.meaning self.now.lists) (partner_in self.now.both.now (number_of copy)) }
+    {
+        let sites = self.lists.count(Side::Site);
+        self.partner(copy).filter(|site| *site < sites)
     }
-}
 
-// Writes the site of every crew.
-fn write_sites<L: Lists>(lists: &L, both: &[u16], plan: &mut [u16])
-    requires { (length both.now ≡ 2 * size (L.Lists.meaning lists.now) Side.Crew) × (length plan.old ≡ size (L.Lists.meaning lists.now) Side.Crew) }
-    ensures { plan.new ≡ sites_in (L.Lists.meaning lists.now) both.now }
-{
-    for (crew, site) in plan.iter_mut().enumerate() {
-        *site = site_in(lists, both, crew as u16);
+    // What a plan has for a crew: the site of its lower or else of its upper copy.
+    fn site(&self, crew: u16) -> u16
+        requires { crew < size (L.Lists.meaning self.now.lists) Side.Crew }
+        ensures { result ≡ site_by_copies (L.Lists.meaning self.now.lists) self.now.both.now crew }
+    {
+        let lower = self.real_site(CrewCopy::Lower { crew });
+        let upper = self.real_site(CrewCopy::Upper { crew });
+        number_written(lower.or(upper))
     }
-}
 
-// Writes the level of every crew.
-fn write_levels<L: Lists>(lists: &L, both: &[u16], levels: &mut [u8])
-    requires { (length both.now ≡ 2 * size (L.Lists.meaning lists.now) Side.Crew) × (length levels.old ≡ size (L.Lists.meaning lists.now) Side.Crew) }
-    ensures { levels.new ≡ levels_in (L.Lists.meaning lists.now) both.now }
-{
-    for (crew, level) in levels.iter_mut().enumerate() {
-        *level = level_in(lists, both, crew as u16);
+    // The level of a crew: 0 if its upper copy has the stand-in, and 1 if not.
+    #[tactic(auto, using(crate::proofs::Few::few_parties))]
+    fn level(&self, crew: u16) -> u8
+        requires { crew < size (L.Lists.meaning self.now.lists) Side.Crew }
+        ensures { result ≡ level_by_copies (L.Lists.meaning self.now.lists) self.now.both.now crew }
+    {
+        let stand_in = CrewBelow {
+            lists: &self.lists,
+            crew,
+        }
+        .stand_in();
+        u8::from(self.partner(CrewCopy::Upper { crew }) != Some(stand_in))
     }
 }
 
 // Pairs the two-level lists and reads the plan and the levels off.
+#[tactic(auto, using(crate::proofs::Few::few_parties))]
 fn read_off<L: Lists>(lists: &L, both: &mut [u16], plan: &mut [u16], levels: &mut [u8])
     requires few { fits_two_levels (L.Lists.meaning lists.now) ≡ true }
-    requires room { length both.old ≡ 2 * size (L.Lists.meaning lists.now) Side.Crew }
+    requires room { length both.old ≡ size (two_levels_of (L.Lists.meaning lists.now)) Side.Crew }
     requires sites { length plan.old ≡ size (L.Lists.meaning lists.now) Side.Crew }
     requires marks { length levels.old ≡ size (L.Lists.meaning lists.now) Side.Crew }
     ensures { (plan.new ≡ settled_plan_of (L.Lists.meaning lists.now)) × (levels.new ≡ settled_levels_of (L.Lists.meaning lists.now)) }
 {
     pair(&TwoLevel { lists }, both);
-    write_sites(lists, both, plan);
-    write_levels(lists, both, levels);
+    let copies = Copies { lists, both };
+    write_each(plan, |crew| copies.site(crew));
+    write_each(levels, |crew| copies.level(crew));
 }
 
 // Whether the lists are small enough and both buffers have one entry for each crew.
@@ -89,28 +93,19 @@ fn check_room<L: Lists>(lists: &L, plan: &[u16], levels: &[u8]) -> Result<(), Fa
     if !few_enough(lists) {
         return Err(Fault::ListsTooLarge);
     }
-    let crews = lists.count(Side::Crew) as usize;
-    if plan.len() != crews {
-        return Err(Fault::HandedLength {
-            which: Which::First,
-        });
-    }
-    if levels.len() != crews {
-        return Err(Fault::HandedLength {
-            which: Which::Second,
-        });
-    }
-    Ok(())
+    check_length(lists, plan, Which::First)?;
+    check_length(lists, levels, Which::Second)
 }
 
 // Writes the settled plan, a number for each crew as in any plan, and its levels.
+#[tactic(auto, using(crate::proofs::Few::few_copies, crate::proofs::Settling::settled_well))]
 pub fn settled_plan<L: Lists>(lists: &L, plan: &mut [u16], levels: &mut [u8]) -> Result<(), Fault>
     ensures call { SettleCall (L.Lists.meaning lists.now) plan.old levels.old plan.new levels.new result }
     ensures law { SettledPlanIsDominant }
 {
     check_room(lists, plan, levels)?;
-    let mut both = [0u16; MOST];
-    let copies = 2 * lists.count(Side::Crew) as usize;
-    read_off(lists, &mut both[0..copies], plan, levels);
+    let mut both = [0; MOST];
+    let crews = usize::from(TwoLevel { lists }.count(Side::Crew));
+    read_off(lists, &mut both[0..crews], plan, levels);
     Ok(())
 }

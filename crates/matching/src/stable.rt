@@ -1,30 +1,34 @@
 // The stable call: the crew-best stable plan, by deferred acceptance.
-ghost use Rattle.std.specs.Prelude.{◌≡◌, ℕ, suc, ◌<◌, length, slice_index};
-ghost use Rattle.lists.specs.Rankings.{size};
-ghost use Rattle.matching.specs.Acceptance.{Asks, AskingIn, Turned, unrefused, Outcome};
+ghost use Rattle.std.specs.Prelude.{◌≡◌, ℕ, suc, ◌<◌, length};
+ghost use Rattle.lists.specs.Rankings.{size, ranks};
+ghost use Rattle.matching.specs.Acceptance.{Asks, AskingIn, Turned, unrefused, chosen};
+ghost use Rattle.matching.specs.Answers.{refusals_in};
 ghost use Rattle.matching.specs.Stability.{StableCall};
 ghost use Rattle.matching.specs.StableCalls.{Found};
 
+use crate::plans::{number_written, write_each};
 use crate::proposals::Proposals;
 use lists::faults::Fault;
 use lists::interface::Lists;
 use lists::parties::{Party, Side};
 
 // A crew asks the next site of its list: the answer is the crew that is refused and asks on, if any.
+// The lists stand beside the state: a struct of both would have to say of every call that it leaves the lists.
 fn ask_next<L: Lists>(lists: &L, state: &mut Proposals, asker: u16) -> Option<u16>
-    requires { (n : ℕ) × Asks (L.Lists.meaning lists.now) state.old.refusals state.old.holds n asker }
-    ensures { (n : ℕ) → Asks (L.Lists.meaning lists.now) state.old.refusals state.old.holds n asker → Turned (L.Lists.meaning lists.now) n (unrefused (L.Lists.meaning lists.now) state.old.refusals) state.new.refusals state.new.holds result }
+    requires { (n : ℕ) × Asks (L.Lists.meaning lists.now) state.old n asker }
+    ensures { (n : ℕ) → Asks (L.Lists.meaning lists.now) state.old n asker → Turned (L.Lists.meaning lists.now) n (unrefused (L.Lists.meaning lists.now) state.old) state.new result }
 {
-    let site = lists.entry(Party::crew(asker), state.refusals[asker as usize])?;
+    let site = lists.entry(Party::crew(asker), state.refusals[usize::from(asker)])?;
     let place = lists.place(Party::site(site), asker)?;
     state.ask(asker, site, place)
 }
 
 // Lets a crew begin to ask, and after it whoever is refused, until a site takes one or one has asked all.
+#[tactic(auto, using(crate::proofs::Turns::begins))]
 fn ask_on<L: Lists>(lists: &L, state: &mut Proposals, first: u16)
     requires within { first < size (L.Lists.meaning lists.now) Side.Crew }
-    requires quiet { AskingIn (L.Lists.meaning lists.now) state.old.refusals state.old.holds first first }
-    ensures { AskingIn (L.Lists.meaning lists.now) state.new.refusals state.new.holds (suc first) (suc first) }
+    requires quiet { AskingIn (L.Lists.meaning lists.now) state.old first first }
+    ensures { AskingIn (L.Lists.meaning lists.now) state.new (suc first) (suc first) }
 {
     let mut asker = first;
     while let Some(refused) = ask_next(lists, state, asker) {
@@ -33,8 +37,9 @@ fn ask_on<L: Lists>(lists: &L, state: &mut Proposals, first: u16)
 }
 
 // Lets every crew ask, one after the other.
+#[tactic(auto, using(crate::proofs::Turns::untouched))]
 fn ask_all<L: Lists>(lists: &L) -> Proposals
-    ensures { AskingIn (L.Lists.meaning lists.now) result.refusals result.holds (size (L.Lists.meaning lists.now) Side.Crew) (size (L.Lists.meaning lists.now) Side.Crew) }
+    ensures { AskingIn (L.Lists.meaning lists.now) result (size (L.Lists.meaning lists.now) Side.Crew) (size (L.Lists.meaning lists.now) Side.Crew) }
 {
     let mut state = Proposals::new();
     for first in 0..lists.count(Side::Crew) {
@@ -43,27 +48,23 @@ fn ask_all<L: Lists>(lists: &L) -> Proposals
     state
 }
 
-// Writes down what every crew has: the entry that has not refused it.
-fn write_down<L: Lists>(lists: &L, state: &Proposals, plan: &mut [u16])
-    requires sized { length plan.old ≡ size (L.Lists.meaning lists.now) Side.Crew }
-    requires room { length state.now.refusals ≡ 500 }
-    ensures { Outcome (L.Lists.meaning lists.now) (λ i. slice_index state.now.refusals i) plan.new }
+// What a plan has for a crew in the end: the entry that has not refused it.
+#[tactic(auto, using(crate::proofs::Few::few_parties))]
+fn chosen<L: Lists>(lists: &L, state: &Proposals, crew: u16) -> u16
+    requires { crew < size (L.Lists.meaning lists.now) Side.Crew }
+    ensures { result ≡ chosen (ranks (L.Lists.meaning lists.now) Side.Crew crew) (refusals_in state.now crew) }
 {
-    for (crew, slot) in plan.iter_mut().enumerate() {
-        *slot = match lists.entry(Party::crew(crew as u16), state.refusals[crew]) {
-            Some(site) => site + 1,
-            None => 0,
-        };
-    }
+    number_written(lists.entry(Party::crew(crew), state.refusals[usize::from(crew)]))
 }
 
 // Pairs the crews and writes down what they have.
+#[tactic(auto, using(crate::proofs::Few::few_parties))]
 pub(crate) fn pair<L: Lists>(lists: &L, plan: &mut [u16])
     requires { length plan.old ≡ size (L.Lists.meaning lists.now) Side.Crew }
     ensures { Found (L.Lists.meaning lists.now) plan.new }
 {
     let state = ask_all(lists);
-    write_down(lists, &state, plan);
+    write_each(plan, |crew| chosen(lists, &state, crew));
 }
 
 // Writes the crew-best stable plan, a number for each crew: 0 for none, else the site's number plus 1.
@@ -71,7 +72,7 @@ pub fn stable_plan<L: Lists>(lists: &L, plan: &mut [u16]) -> Result<(), Fault>
     ensures call { StableCall (L.Lists.meaning lists.now) plan.old plan.new result }
     ensures found { length plan.old ≡ size (L.Lists.meaning lists.now) Side.Crew → Found (L.Lists.meaning lists.now) plan.new }
 {
-    if plan.len() != lists.count(Side::Crew) as usize {
+    if plan.len() != usize::from(lists.count(Side::Crew)) {
         return Err(Fault::BufferLength);
     }
     pair(lists, plan);

@@ -1,9 +1,13 @@
 // Two-level lists over any lists: every crew twice, lower and upper, and a stand-in site for each crew.
-ghost use Rattle.std.specs.Prelude.{◌≡◌, ◌<◌, length};
+ghost use Rattle.std.specs.Prelude.{◌≡◌, ◌<◌, ◌≤◌, MatchOption};
 ghost use Rattle.lists.specs.Rankings.{size, ranks, entry_at, place_of};
-ghost use Rattle.matching.specs.TwoLevels.{stand_in_of, lower_list, upper_list, crew_list, split_list, own_list, site_list, fits_two_levels, crew_total, site_total, two_levels_of};
+ghost use Rattle.matching.specs.Roles.{HasRole, role_list};
+ghost use Rattle.matching.specs.TwoLevels.{split_list, fits_two_levels, two_levels_of};
 ghost use Rattle.matching.specs.Evidence.TwoLevels.{two_levels_lawful};
 
+use crate::copies::CrewCopy;
+use crate::crews::CrewBelow;
+use crate::roles::Role;
 use lists::interface::Lists;
 use lists::parties::{Party, Side};
 
@@ -22,200 +26,63 @@ pub struct TwoLevel<L> {
     pub lists: L,
 }
 
-// The lists below, by their counts.
+// Who the parties are, by the lists below.
 impl<L: Lists> TwoLevel<L> {
-    // How many crews there are.
-    fn crew_count(&self) -> u16
-        ensures { result ≡ crew_total (L.Lists.meaning self.now.lists) }
+    // The role of a party, if there is such a party.
+    fn role(&self, party: Party) -> Option<Role>
+        ensures is { MatchOption result (size (two_levels_of (L.Lists.meaning self.now.lists)) party.side ≤ party.number) (HasRole (L.Lists.meaning self.now.lists) party) }
+        ensures list { ranks (two_levels_of (L.Lists.meaning self.now.lists)) party.side party.number ≡ role_list (L.Lists.meaning self.now.lists) result }
     {
-        if few_enough(&self.lists) {
-            2 * self.lists.count(Side::Crew)
-        } else {
-            0
+        if party.number >= self.count(party.side) {
+            return None;
         }
+        Some(match party.side {
+            Side::Crew => Role::Copied(CrewCopy::from(party.number)),
+            Side::Site => match party.number.checked_sub(self.lists.count(Side::Site)) {
+                None => Role::Real { site: party.number },
+                Some(crew) => Role::StandIn { crew },
+            },
+        })
     }
 
-    // How many sites there are, stand-ins among them.
-    fn site_count(&self) -> u16
-        ensures { result ≡ site_total (L.Lists.meaning self.now.lists) }
-    {
-        if few_enough(&self.lists) {
-            self.lists.count(Side::Site) + self.lists.count(Side::Crew)
-        } else {
-            0
-        }
-    }
-
-    // The site that stands in for a crew of the lists below.
-    fn stand_in(&self, crew: u16) -> u16
+    // A crew of the lists below, by which its copies and its stand-in answer.
+    fn below(&self, crew: u16) -> CrewBelow<&L>
         requires { crew < size (L.Lists.meaning self.now.lists) Side.Crew }
-        ensures { result ≡ stand_in_of (L.Lists.meaning self.now.lists) crew }
+        ensures { (result.lists.now ≡ self.now.lists) × (result.crew ≡ crew) }
     {
-        self.lists.count(Side::Site) + crew
-    }
-}
-
-// The list of a crew: that of the crew below, with the stand-in last for a lower crew and first for an upper one.
-impl<L: Lists> TwoLevel<L> {
-    fn crew_length(&self, number: u16) -> u16
-        requires { number < crew_total (L.Lists.meaning self.now.lists) }
-        ensures { result ≡ length (crew_list (L.Lists.meaning self.now.lists) number) }
-    {
-        self.lists.length(Party::crew(number / 2)) + 1
-    }
-
-    fn lower_entry(&self, crew: u16, place: u16) -> Option<u16>
-        requires { crew < size (L.Lists.meaning self.now.lists) Side.Crew }
-        ensures { result ≡ entry_at (lower_list (L.Lists.meaning self.now.lists) crew) place }
-    {
-        if place == self.lists.length(Party::crew(crew)) {
-            Some(self.stand_in(crew))
-        } else {
-            self.lists.entry(Party::crew(crew), place)
-        }
-    }
-
-    fn upper_entry(&self, crew: u16, place: u16) -> Option<u16>
-        requires { crew < size (L.Lists.meaning self.now.lists) Side.Crew }
-        ensures { result ≡ entry_at (upper_list (L.Lists.meaning self.now.lists) crew) place }
-    {
-        if place == 0 {
-            Some(self.stand_in(crew))
-        } else {
-            self.lists.entry(Party::crew(crew), place - 1)
-        }
-    }
-
-    fn crew_entry(&self, number: u16, place: u16) -> Option<u16>
-        requires { number < crew_total (L.Lists.meaning self.now.lists) }
-        ensures { result ≡ entry_at (crew_list (L.Lists.meaning self.now.lists) number) place }
-    {
-        if number % 2 == 0 {
-            self.lower_entry(number / 2, place)
-        } else {
-            self.upper_entry(number / 2, place)
-        }
-    }
-
-    fn lower_place(&self, crew: u16, site: u16) -> Option<u16>
-        requires { crew < size (L.Lists.meaning self.now.lists) Side.Crew }
-        ensures { result ≡ place_of (lower_list (L.Lists.meaning self.now.lists) crew) site }
-    {
-        if site == self.stand_in(crew) {
-            Some(self.lists.length(Party::crew(crew)))
-        } else {
-            self.lists.place(Party::crew(crew), site)
-        }
-    }
-
-    fn upper_place(&self, crew: u16, site: u16) -> Option<u16>
-        requires { crew < size (L.Lists.meaning self.now.lists) Side.Crew }
-        ensures { result ≡ place_of (upper_list (L.Lists.meaning self.now.lists) crew) site }
-    {
-        if site == self.stand_in(crew) {
-            return Some(0);
-        }
-        let place = self.lists.place(Party::crew(crew), site)?;
-        Some(place + 1)
-    }
-
-    fn crew_place(&self, number: u16, site: u16) -> Option<u16>
-        requires { number < crew_total (L.Lists.meaning self.now.lists) }
-        ensures { result ≡ place_of (crew_list (L.Lists.meaning self.now.lists) number) site }
-    {
-        if number % 2 == 0 {
-            self.lower_place(number / 2, site)
-        } else {
-            self.upper_place(number / 2, site)
+        CrewBelow {
+            lists: &self.lists,
+            crew,
         }
     }
 }
 
-// The list of a site: the upper crews of the list below and then the lower ones; of a stand-in, its own two crews.
+// The list of a site of the lists below: the upper copies of the crews that it names, and then the lower ones.
 impl<L: Lists> TwoLevel<L> {
-    fn site_length(&self, number: u16) -> u16
-        requires { number < site_total (L.Lists.meaning self.now.lists) }
-        ensures { result ≡ length (site_list (L.Lists.meaning self.now.lists) number) }
-    {
-        if number < self.lists.count(Side::Site) {
-            2 * self.lists.length(Party::site(number))
-        } else {
-            2
-        }
-    }
-
     fn split_entry(&self, site: u16, place: u16) -> Option<u16>
         ensures { result ≡ entry_at (split_list (ranks (L.Lists.meaning self.now.lists) Side.Site site)) place }
     {
         let length = self.lists.length(Party::site(site));
         if place < length {
             let crew = self.lists.entry(Party::site(site), place)?;
-            Some(2 * crew + 1)
+            Some(CrewCopy::Upper { crew }.number())
         } else {
             let crew = self.lists.entry(Party::site(site), place - length)?;
-            Some(2 * crew)
+            Some(CrewCopy::Lower { crew }.number())
         }
     }
 
-    fn site_entry(&self, number: u16, place: u16) -> Option<u16>
-        requires { number < site_total (L.Lists.meaning self.now.lists) }
-        ensures { result ≡ entry_at (site_list (L.Lists.meaning self.now.lists) number) place }
-    {
-        let sites = self.lists.count(Side::Site);
-        if number < sites {
-            self.split_entry(number, place)
-        } else {
-            own_entry(number - sites, place)
-        }
-    }
-
+    #[tactic(auto, using(crate::proofs::RoleLists::split_places))]
     fn split_place(&self, site: u16, number: u16) -> Option<u16>
         ensures { result ≡ place_of (split_list (ranks (L.Lists.meaning self.now.lists) Side.Site site)) number }
     {
-        let place = self.lists.place(Party::site(site), number / 2)?;
-        if number % 2 == 0 {
-            Some(self.lists.length(Party::site(site)) + place)
-        } else {
-            Some(place)
+        match CrewCopy::from(number) {
+            CrewCopy::Lower { crew } => {
+                let place = self.lists.place(Party::site(site), crew)?;
+                Some(self.lists.length(Party::site(site)) + place)
+            }
+            CrewCopy::Upper { crew } => self.lists.place(Party::site(site), crew),
         }
-    }
-
-    fn site_place(&self, number: u16, crew: u16) -> Option<u16>
-        requires { number < site_total (L.Lists.meaning self.now.lists) }
-        ensures { result ≡ place_of (site_list (L.Lists.meaning self.now.lists) number) crew }
-    {
-        let sites = self.lists.count(Side::Site);
-        if number < sites {
-            self.split_place(number, crew)
-        } else {
-            own_place(number - sites, crew)
-        }
-    }
-}
-
-// Whom a crew's stand-in names at a place.
-fn own_entry(crew: u16, place: u16) -> Option<u16>
-    requires { crew < 500 }
-    ensures { result ≡ entry_at (own_list crew) place }
-{
-    match place {
-        0 => Some(2 * crew),
-        1 => Some(2 * crew + 1),
-        _ => None,
-    }
-}
-
-// At which place a crew's stand-in names another.
-fn own_place(crew: u16, named: u16) -> Option<u16>
-    requires { crew < 500 }
-    ensures { result ≡ place_of (own_list crew) named }
-{
-    if named == 2 * crew {
-        Some(0)
-    } else if named == 2 * crew + 1 {
-        Some(1)
-    } else {
-        None
     }
 }
 
@@ -224,40 +91,44 @@ impl<L: Lists> Lists for TwoLevel<L> {
 
     ghost lawful = { λ x. two_levels_lawful (L.Lists.lawful x.lists) };
 
+    #[tactic(auto, using(crate::proofs::RoleLists::counts))]
     fn count(&self, side: Side) -> u16 {
+        if !few_enough(&self.lists) {
+            return 0;
+        }
         match side {
-            Side::Crew => self.crew_count(),
-            Side::Site => self.site_count(),
+            Side::Crew => 2 * self.lists.count(Side::Crew),
+            Side::Site => self.lists.count(Side::Site) + self.lists.count(Side::Crew),
         }
     }
 
+    #[tactic(auto, using(lists::proofs::Pigeonhole::length_few))]
     fn length(&self, party: Party) -> u16 {
-        if party.number >= self.count(party.side) {
-            return 0;
-        }
-        match party.side {
-            Side::Crew => self.crew_length(party.number),
-            Side::Site => self.site_length(party.number),
+        match self.role(party) {
+            None => 0,
+            Some(Role::Copied(CrewCopy::Lower { crew } | CrewCopy::Upper { crew })) => {
+                self.below(crew).copy_length()
+            }
+            Some(Role::Real { site }) => 2 * self.lists.length(Party::site(site)),
+            Some(Role::StandIn { .. }) => 2,
         }
     }
 
     fn entry(&self, party: Party, place: u16) -> Option<u16> {
-        if party.number >= self.count(party.side) {
-            return None;
-        }
-        match party.side {
-            Side::Crew => self.crew_entry(party.number, place),
-            Side::Site => self.site_entry(party.number, place),
+        match self.role(party)? {
+            Role::Copied(CrewCopy::Lower { crew }) => self.below(crew).lower_entry(place),
+            Role::Copied(CrewCopy::Upper { crew }) => self.below(crew).upper_entry(place),
+            Role::Real { site } => self.split_entry(site, place),
+            Role::StandIn { crew } => self.below(crew).own_entry(place),
         }
     }
 
     fn place(&self, party: Party, named: u16) -> Option<u16> {
-        if party.number >= self.count(party.side) {
-            return None;
-        }
-        match party.side {
-            Side::Crew => self.crew_place(party.number, named),
-            Side::Site => self.site_place(party.number, named),
+        match self.role(party)? {
+            Role::Copied(CrewCopy::Lower { crew }) => self.below(crew).lower_place(named),
+            Role::Copied(CrewCopy::Upper { crew }) => self.below(crew).upper_place(named),
+            Role::Real { site } => self.split_place(site, named),
+            Role::StandIn { crew } => self.below(crew).own_place(named),
         }
     }
 }

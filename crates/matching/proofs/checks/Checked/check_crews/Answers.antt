@@ -1,0 +1,45 @@
+use Rattle.std.proofs.Common.{◌≡◌, length, sym, subst, arith}
+use Rattle.std.proofs.lemmas.Result.{err_from_is_err_and}
+use Rattle.lists.specs.declared.parties.Side.TheVariants.{Site}
+use Rattle.matching.specs.Checks.{crew_fault, TakenBelow}
+use Rattle.lists.proofs.Earliest.{earliest_none, earliest_step, earliest_found}
+use Rattle.matching.proofs.Granted.{granted_ok, granted_err, ok_granted, err_granted}
+use Rattle.matching.proofs.Passing.{crew_passes, taken_none, taken_more}
+use Rattle.matching.proofs.checks.Checked.check_crews.Goals as goal
+
+pub loop-crew-init : goal.loop-crew-init
+loop-crew-init g c = (taken_none c.args.self.now.plan.now c.new-taken.result.sites c.new-taken.ensures, earliest_none _)
+
+pub take-requires : goal.take-requires
+take-requires g c =
+    let L = g.L.Lists.meaning c.args.self.now.lists in
+    let few = (g.L.Lists.lawful c.args.self.now.lists).few Site in
+    omega (arith, (crew_passes L c.args.self.now.plan.now c.args.self.now.which c.loop-crew.crew (granted_ok _ tt _ c.in_ok-check_crew.ensures)).exists)
+
+pub returns-in_err-check_crew : goal.returns-in_err-check_crew
+returns-in_err-check_crew g c =
+    let p = err_from_is_err_and c.from_residual.result c.from_residual.ensures.1 in
+    let L = g.L.Lists.meaning c.args.self.now.lists in
+    let P = c.args.self.now.plan.now in
+    rw (p.1, p.2)
+    (err_granted _ tt _ (earliest_found c.loop-crew.crew (length P) (crew_fault L P c.args.self.now.which) _ (omega arith) c.loop-crew.invariant.1
+    (granted_err _ tt _ c.in_err-check_crew.ensures)))
+
+pub loop-crew-preserved : goal.loop-crew-preserved
+loop-crew-preserved g c =
+    let L = g.L.Lists.meaning c.args.self.now.lists in
+    let P = c.args.self.now.plan.now in
+    let crew = c.loop-crew.crew in
+    let few = (g.L.Lists.lawful c.args.self.now.lists).few Site in
+    let none = granted_ok _ tt _ c.in_ok-check_crew.ensures in
+    let passes = crew_passes L P c.args.self.now.which crew none in (
+      subst (TakenBelow P _) (sym c.take.ensures) (taken_more P crew c.loop-crew.taken.sites (omega arith) (omega (arith, passes.exists)) c.loop-crew.invariant.0),
+      earliest_step crew (crew_fault L P c.args.self.now.which) c.loop-crew.invariant.1 none,
+    )
+
+pub returns : goal.returns
+returns g c =
+    let L = g.L.Lists.meaning c.args.self.now.lists in
+    let P = c.args.self.now.plan.now in
+    let all : c.loop-crew.crew ≡ length P = omega arith in
+    ok_granted _ tt (rw all at c.loop-crew.invariant.1)
