@@ -8,8 +8,6 @@ use crate::parties::{Party, Side};
 pub trait Lists {
     ghost meaning: { Self → Rankings };
 
-    ghost lawful: { (x : Self) → Lawful (meaning x) };
-
     // How many parties a side has.
     fn count(&self, side: Side) -> u16
         ensures { result ≡ size (meaning self.now) side };
@@ -25,6 +23,9 @@ pub trait Lists {
     // At which place a party names another.
     fn place(&self, party: Party, named: u16) -> Option<u16>
         ensures { result ≡ place_of (ranks (meaning self.now) party.side party.number) named };
+
+    // The lists keep the laws.
+    ghost lawful: { (x : Self) → Lawful (meaning x) };
 }
 
 impl<'a, L: Lists> Lists for &'a L {

@@ -6,19 +6,19 @@ use Rattle.matching.proofs.stable.ask_next.Goals as goal
 
 pub bounds-state-from : goal.bounds-state-from
 bounds-state-from g c =
-    omega (arith, asker_fits (g.L.Lists.meaning c.args.lists.now) (g.L.Lists.lawful c.args.lists.now) c.args.state.now c.requires.0 c.args.asker c.requires.1)
+    omega (arith, asker_fits (g.L.Lists.meaning c.args.lists.now) (g.met.L.Lists.lawful c.args.lists.now) c.args.state.now c.requires.0 c.args.asker c.requires.1)
 
 pub returns-in_err-site : goal.returns-in_err-site
 returns-in_err-site g c = λ n before.
     let L = g.L.Lists.meaning c.args.lists.now in
     let p = c.args.state.now in
     let all = given_none _ _ _ (rw (c.crew.ensures, c.from.ensures) at (sym c.in_err-site.was ∙ c.entry.ensures)) in
-    subst (Turned L n (unrefused L p) p) (sym c.from_residual.ensures) (turn_ends L (g.L.Lists.lawful c.args.lists.now) p n c.args.asker before all)
+    subst (Turned L n (unrefused L p) p) (sym c.from_residual.ensures) (turn_ends L (g.met.L.Lists.lawful c.args.lists.now) p n c.args.asker before all)
 
 pub returns-in_err-place : goal.returns-in_err-place
 returns-in_err-place g c = λ n before.
     let L = g.L.Lists.meaning c.args.lists.now in
-    let lawful = g.L.Lists.lawful c.args.lists.now in
+    let lawful = g.met.L.Lists.lawful c.args.lists.now in
     let p = c.args.state.now in
     let asker = c.args.asker in
     let site = c.in_ok-site.site in
@@ -30,7 +30,7 @@ returns-in_err-place g c = λ n before.
 pub ask-requires : goal.ask-requires
 ask-requires g c =
     let L = g.L.Lists.meaning c.args.lists.now in
-    let lawful = g.L.Lists.lawful c.args.lists.now in
+    let lawful = g.met.L.Lists.lawful c.args.lists.now in
     let p = c.args.state.now in
     let asker = c.args.asker in
     let n = c.requires.0 in
@@ -46,7 +46,7 @@ ask-requires g c =
 pub returns : goal.returns
 returns g c = λ n before.
     let L = g.L.Lists.meaning c.args.lists.now in
-    let lawful = g.L.Lists.lawful c.args.lists.now in
+    let lawful = g.met.L.Lists.lawful c.args.lists.now in
     let p = c.args.state.now in
     let asker = c.args.asker in
     let site = c.in_ok-site.site in

@@ -13,7 +13,7 @@ loop-crew-init g c = (taken_none c.args.self.now.plan.now c.new-taken.result.sit
 pub take-requires : goal.take-requires
 take-requires g c =
     let L = g.L.Lists.meaning c.args.self.now.lists in
-    let few = (g.L.Lists.lawful c.args.self.now.lists).few Site in
+    let few = (g.met.L.Lists.lawful c.args.self.now.lists).few Site in
     omega (arith, (crew_passes L c.args.self.now.plan.now c.args.self.now.which c.loop-crew.crew (granted_ok _ tt _ c.in_ok-check_crew.ensures)).exists)
 
 pub returns-in_err-check_crew : goal.returns-in_err-check_crew
@@ -30,7 +30,7 @@ loop-crew-preserved g c =
     let L = g.L.Lists.meaning c.args.self.now.lists in
     let P = c.args.self.now.plan.now in
     let crew = c.loop-crew.crew in
-    let few = (g.L.Lists.lawful c.args.self.now.lists).few Site in
+    let few = (g.met.L.Lists.lawful c.args.self.now.lists).few Site in
     let none = granted_ok _ tt _ c.in_ok-check_crew.ensures in
     let passes = crew_passes L P c.args.self.now.which crew none in (
       subst (TakenBelow P _) (sym c.take.ensures) (taken_more P crew c.loop-crew.taken.sites (omega arith) (omega (arith, passes.exists)) c.loop-crew.invariant.0),
