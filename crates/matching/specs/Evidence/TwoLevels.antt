@@ -167,20 +167,18 @@ module _ {L : Rankings} (lawful : Lawful L) where
   SiteNames y x = (y < site_total L) × (place (site_list L y) x < length (site_list L y))
 
   site_names_split : (j x : ℕ) → j < site_total L → j < size L Site → place (split_list (ranks L Site j)) x < length (split_list (ranks L Site j)) → SiteNames j x
-  site_names_split j x h l n = (h, subst (λ xs. place xs x < length xs) (sym (site_split L j l)) n)
+  site_names_split j x h l n = (h, rw (site_split L j l) n)
 
   site_names_own : (i x : ℕ) → stand_in_of L i < site_total L → place (own_list i) x < length (own_list i) → SiteNames (stand_in_of L i) x
-  site_names_own i x h n = (h, subst (λ xs. place xs x < length xs) (sym (site_own L i)) n)
+  site_names_own i x h n = (h, rw (site_own L i) n)
 
   -- what a crew names is there and names it
   crew_returned : (x : ℕ) → x < crew_total L → (k : ℕ) → k < length (crew_list L x) → SiteNames (slice_index (crew_list L x) k) x
   crew_returned x h = by_crew L (λ v. (k : ℕ) → k < length (crew_list L v) → SiteNames (slice_index (crew_list L v) k) v) x h
-      (λ i l. subst (λ xs. (k : ℕ) → k < length xs → SiteNames (slice_index xs k) (lower i)) (sym (crew_lower L i))
-      (each_join (λ y. SiteNames y (lower i)) (ranks L Crew i) (stand_in_of L i ∷ [])
+      (λ i l. rw (crew_lower L i) (each_join (λ y. SiteNames y (lower i)) (ranks L Crew i) (stand_in_of L i ∷ [])
       (λ k m. named_by i k l m (lower i) (λ r. let a = place_split_lower (ranks L Site (slice_index (ranks L Crew i) k)) i in let n = length_split (ranks L Site (slice_index (ranks L Crew i) k)) in omega arith))
       (each_one (λ y. SiteNames y (lower i)) (stand_in_of L i) (owned i l (lower i) (omega (arith, place_own_lower i))))))
-      (λ i l. subst (λ xs. (k : ℕ) → k < length xs → SiteNames (slice_index xs k) (upper i)) (sym (crew_upper L i))
-      (each_join (λ y. SiteNames y (upper i)) (stand_in_of L i ∷ []) (ranks L Crew i)
+      (λ i l. rw (crew_upper L i) (each_join (λ y. SiteNames y (upper i)) (stand_in_of L i ∷ []) (ranks L Crew i)
       (each_one (λ y. SiteNames y (upper i)) (stand_in_of L i) (owned i l (upper i) (omega (arith, place_own_upper i))))
       (λ k m. named_by i k l m (upper i) (λ r. let a = place_split_upper (ranks L Site (slice_index (ranks L Crew i) k)) i r in let n = length_split (ranks L Site (slice_index (ranks L Crew i) k)) in omega arith))))
     where
@@ -203,14 +201,12 @@ module _ {L : Rankings} (lawful : Lawful L) where
   -- what a site names is there and names it
   site_returned : (y : ℕ) → y < site_total L → (k : ℕ) → k < length (site_list L y) → CrewNames (slice_index (site_list L y) k) y
   site_returned y h = by_site L (λ v. (k : ℕ) → k < length (site_list L v) → CrewNames (slice_index (site_list L v) k) v) y h
-      (λ j l. subst (λ xs. (k : ℕ) → k < length xs → CrewNames (slice_index xs k) j) (sym (site_split L j l))
-      (each_join (λ x. CrewNames x j) (map upper (ranks L Site j)) (map lower (ranks L Site j))
+      (λ j l. rw (site_split L j l) (each_join (λ x. CrewNames x j) (map upper (ranks L Site j)) (map lower (ranks L Site j))
       (each_image (λ x. CrewNames x j) upper (ranks L Site j) (λ k m. let b = back j k m in
       crew_names_upper (slice_index (ranks L Site j) k) j b.0 (let p = place_upper (slice_index (ranks L Site j) k) j (λ e. omega arith) in let q = b.1 in omega arith)))
       (each_image (λ x. CrewNames x j) lower (ranks L Site j) (λ k m. let b = back j k m in
       crew_names_lower (slice_index (ranks L Site j) k) j b.0 (let q = b.1 in let p = place_lower (slice_index (ranks L Site j) k) j q in let n = length_lower (slice_index (ranks L Site j) k) in omega arith)))))
-      (λ i l. subst (λ xs. (k : ℕ) → k < length xs → CrewNames (slice_index xs k) (stand_in_of L i)) (sym (site_own L i))
-      (each_join (λ x. CrewNames x (stand_in_of L i)) (lower i ∷ []) (upper i ∷ [])
+      (λ i l. rw (site_own L i) (each_join (λ x. CrewNames x (stand_in_of L i)) (lower i ∷ []) (upper i ∷ [])
       (each_one (λ x. CrewNames x (stand_in_of L i)) (lower i) (crew_names_lower i (stand_in_of L i) l (let p = place_lower_own i in let n = length_lower i in omega arith)))
       (each_one (λ x. CrewNames x (stand_in_of L i)) (upper i) (crew_names_upper i (stand_in_of L i) l (let p = place_upper_own i in omega arith)))))
     where
@@ -218,10 +214,10 @@ module _ {L : Rankings} (lawful : Lawful L) where
       z = sized_by_site L y h
 
       crew_names_lower : (i v : ℕ) → i < size L Crew → place (lower_list L i) v < length (lower_list L i) → CrewNames (lower i) v
-      crew_names_lower i v l n = (omega (arith, z.crews_are), subst (λ xs. place xs v < length xs) (sym (crew_lower L i)) n)
+      crew_names_lower i v l n = (omega (arith, z.crews_are), rw (crew_lower L i) n)
 
       crew_names_upper : (i v : ℕ) → i < size L Crew → place (upper_list L i) v < length (upper_list L i) → CrewNames (upper i) v
-      crew_names_upper i v l n = (omega (arith, z.crews_are), subst (λ xs. place xs v < length xs) (sym (crew_upper L i)) n)
+      crew_names_upper i v l n = (omega (arith, z.crews_are), rw (crew_upper L i) n)
 
       -- a crew that a site names is there and names the site
       back : (j k : ℕ) → k < length (ranks L Site j) → (slice_index (ranks L Site j) k < size L Crew) × Names L Crew (slice_index (ranks L Site j) k) j
@@ -241,13 +237,11 @@ module _ {L : Rankings} (lawful : Lawful L) where
   within Crew x k h =
       let l : x < crew_total L = omega (arith, has_list Crew x k h, size_crews L) in
       let e = ranks_crew L x l in
-      subst (λ n. slice_index (ranks (two_levels_of L) Crew x) k < n) (sym (size_sites L))
-      (subst (λ xs. k < length xs → slice_index xs k < site_total L) (sym e) (λ m. (crew_returned x l k m).0) h)
+      rw (size_sites L) (subst (λ xs. k < length xs → slice_index xs k < site_total L) (sym e) (λ m. (crew_returned x l k m).0) h)
   within Site y k h =
       let l : y < site_total L = omega (arith, has_list Site y k h, size_sites L) in
       let e = ranks_site L y l in
-      subst (λ n. slice_index (ranks (two_levels_of L) Site y) k < n) (sym (size_crews L))
-      (subst (λ xs. k < length xs → slice_index xs k < crew_total L) (sym e) (λ m. (site_returned y l k m).0) h)
+      rw (size_crews L) (subst (λ xs. k < length xs → slice_index xs k < crew_total L) (sym e) (λ m. (site_returned y l k m).0) h)
 
   once : (s : Side) (i : ℕ) → Distinct (ranks (two_levels_of L) s i)
   once Crew x k m hk = let l : x < crew_total L = omega (arith, has_list Crew x k hk, size_crews L) in subst Distinct (sym (ranks_crew L x l)) (distinct_crew x l) k m hk
@@ -256,12 +250,12 @@ module _ {L : Rankings} (lawful : Lawful L) where
   returned : (s : Side) (i j : ℕ) → Names (two_levels_of L) s i j → Names (two_levels_of L) (other s) j i
   returned Crew x y h =
       let l : x < crew_total L = omega (arith, has_list Crew x (place (ranks (two_levels_of L) Crew x) y) h, size_crews L) in
-      let there = each_named (λ v. SiteNames v x) (crew_list L x) (crew_returned x l) y (subst (λ xs. place xs y < length xs) (ranks_crew L x l) h) in
-      subst (λ xs. place xs x < length xs) (sym (ranks_site L y there.0)) there.1
+      let there = each_named (λ v. SiteNames v x) (crew_list L x) (crew_returned x l) y (rw (ranks_crew L x l) at h) in
+      rw (ranks_site L y there.0) there.1
   returned Site y x h =
       let l : y < site_total L = omega (arith, has_list Site y (place (ranks (two_levels_of L) Site y) x) h, size_sites L) in
-      let there = each_named (λ v. CrewNames v y) (site_list L y) (site_returned y l) x (subst (λ xs. place xs x < length xs) (ranks_site L y l) h) in
-      subst (λ xs. place xs y < length xs) (sym (ranks_crew L x there.0)) there.1
+      let there = each_named (λ v. CrewNames v y) (site_list L y) (site_returned y l) x (rw (ranks_site L y l) at h) in
+      rw (ranks_crew L x there.0) there.1
 
   pub two_levels_lawful : Lawful (two_levels_of L)
   two_levels_lawful = record { few = few; within = within; once = once; returned = returned }
