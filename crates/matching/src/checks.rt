@@ -11,7 +11,7 @@ use lists::faults::{Fault, Which};
 use lists::interface::Lists;
 use lists::parties::{Party, Side};
 
-// Which sites some crews have.
+// Which sites some crews have: a table of fixed size, since the check allocates nothing.
 #[derive(Drop)]
 struct Taken {
     sites: [bool; MOST],
@@ -90,6 +90,7 @@ impl<L: Lists> Checked<'_, L> {
     {
         let mut taken = Taken::new();
         for (crew, number) in self.plan.iter().enumerate() {
+            // A crew below 500 fits 16 bits.
             self.check_crew(&taken, crew as u16, *number)?;
             taken.take(*number);
         }

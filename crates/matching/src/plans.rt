@@ -1,4 +1,4 @@
-// How a plan is written: one number for each crew, 0 for none, else the site's number plus 1.
+// How a plan is written, as a caller in C reads it: one number for each crew, 0 for none, else the site's number plus 1.
 ghost use Rattle.std.specs.Prelude.{◌≡◌, ℕ, ◌^◌, ◌<◌, ◌≤◌, length};
 ghost use Rattle.matching.specs.Plans.{number_written, site_written};
 ghost use Rattle.matching.specs.Slots.{EachSlot};
@@ -25,6 +25,7 @@ pub(crate) fn write_each<T: Drop, F: Fn(u16) -> T>(slots: &mut [T], of: F)
     ensures { EachSlot slots.new (F.post of) }
 {
     for (index, slot) in slots.iter_mut().enumerate() {
+        // The slots are few, so that 16 bits hold their indices.
         *slot = of(index as u16);
     }
 }

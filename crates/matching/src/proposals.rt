@@ -12,6 +12,7 @@ pub(crate) struct Hold {
     pub(crate) place: u16,
 }
 
+// Tables of fixed size, since the pairing allocates nothing.
 #[derive(Drop)]
 pub(crate) struct Proposals {
     // How many entries of each crew's list have refused it.

@@ -27,6 +27,7 @@ struct Copies<'a, L: Lists> {
     ghost whole: { length both.now ≡ 2 * size (L.Lists.meaning lists) Crew },
 }
 
+// A crew comes as its number, which the loop over the slots hands in.
 impl<L: Lists> Copies<'_, L> {
     // The partner of a crew's copy.
     #[tactic(auto, using(crate::proofs::Few::few_parties))]
@@ -97,13 +98,14 @@ fn check_room<L: Lists>(lists: &L, plan: &[u16], levels: &[u8]) -> Result<(), Fa
     check_length(lists, levels, Which::Second)
 }
 
-// Writes the settled plan, a number for each crew as in any plan, and its levels.
+// Writes the settled plan, a number for each crew as in any plan, and its levels, a byte for each, as a caller in C reads them.
 #[tactic(auto, using(crate::proofs::Few::few_copies, crate::proofs::Settling::settled_well))]
 pub fn settled_plan<L: Lists>(lists: &L, plan: &mut [u16], levels: &mut [u8]) -> Result<(), Fault>
     ensures call { SettleCall (L.Lists.meaning lists.now) plan.old levels.old plan.new levels.new result }
     ensures law { SettledPlanIsDominant }
 {
     check_room(lists, plan, levels)?;
+    // An array of the largest size, since the call allocates nothing.
     let mut both = [0; MOST];
     let crews = usize::from(TwoLevel { lists }.count(Side::Crew));
     read_off(lists, &mut both[0..crews], plan, levels);

@@ -68,6 +68,7 @@ pub(crate) fn pair<L: Lists>(lists: &L, plan: &mut [u16])
 }
 
 // Writes the crew-best stable plan, a number for each crew: 0 for none, else the site's number plus 1.
+// A wrong length has a fault of its own here, which other calls do not answer.
 pub fn stable_plan<L: Lists>(lists: &L, plan: &mut [u16]) -> Result<(), Fault>
     ensures call { StableCall (L.Lists.meaning lists.now) plan.old plan.new result }
     ensures found { length plan.old ≡ size (L.Lists.meaning lists.now) Side.Crew → Found (L.Lists.meaning lists.now) plan.new }
