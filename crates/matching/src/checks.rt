@@ -1,9 +1,9 @@
 // Whether numbers are a plan on lists, and the first fault where they are not.
-ghost use Rattle.std.specs.Prelude.{◌≡◌, ◌<◌, ◌≤◌, false, length, replicate, slice_index};
-ghost use Rattle.lists.specs.Order.{earliest, granted};
+ghost use Rattle.std.specs.Prelude.{◌≡◌, ◌<◌, ◌≤◌, ◌==◌, false, length, replicate, slice_index};
+ghost use Rattle.lists.specs.Order.{unless, earliest, granted};
 ghost use Rattle.lists.specs.Rankings.{size};
 ghost use Rattle.lists.specs.declared.parties.Side.TheVariants.{Crew};
-ghost use Rattle.matching.specs.Checks.{length_fault, crew_fault, plan_fault, PassingIsBeingAPlan, TakenBelow, with_taken};
+ghost use Rattle.matching.specs.Checks.{crew_fault, plan_fault, PassingIsBeingAPlan, TakenBelow, with_taken};
 
 use crate::limits::MOST;
 use crate::plans::site_written;
@@ -38,14 +38,14 @@ impl Taken {
     }
 }
 
-// Checks that a buffer has one entry for each crew.
-pub(crate) fn check_length<L: Lists, T>(lists: &L, buffer: &[T], which: Which) -> Result<(), Fault>
-    ensures { result ≡ granted (length_fault (L.Lists.meaning lists.now) buffer.now which) tt }
+// Checks that a buffer has one entry for each crew, and answers a fault where it has not.
+pub(crate) fn check_length<L: Lists, T>(lists: &L, buffer: &[T], fault: Fault) -> Result<(), Fault>
+    ensures { result ≡ granted (unless (length buffer.now == size (L.Lists.meaning lists.now) Side.Crew) fault) tt }
 {
     if buffer.len() == usize::from(lists.count(Side::Crew)) {
         Ok(())
     } else {
-        Err(Fault::HandedLength { which })
+        Err(fault)
     }
 }
 
@@ -104,6 +104,6 @@ pub fn check_plan<L: Lists>(lists: &L, plan: &[u16], which: Which) -> Result<(),
     ensures answer { result ≡ granted (plan_fault (L.Lists.meaning lists.now) plan.now which) tt }
     ensures meaning { PassingIsBeingAPlan }
 {
-    check_length(lists, plan, which)?;
+    check_length(lists, plan, Fault::HandedLength { which })?;
     Checked { lists, plan, which }.check_crews()
 }

@@ -94,8 +94,14 @@ fn check_room<L: Lists>(lists: &L, plan: &[u16], levels: &[u8]) -> Result<(), Fa
     if !few_enough(lists) {
         return Err(Fault::ListsTooLarge);
     }
-    check_length(lists, plan, Which::First)?;
-    check_length(lists, levels, Which::Second)
+    let first = Fault::HandedLength {
+        which: Which::First,
+    };
+    let second = Fault::HandedLength {
+        which: Which::Second,
+    };
+    check_length(lists, plan, first)?;
+    check_length(lists, levels, second)
 }
 
 // Writes the settled plan, a number for each crew as in any plan, and its levels, a byte for each, as a caller in C reads them.

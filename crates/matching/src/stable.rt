@@ -6,6 +6,7 @@ ghost use Rattle.matching.specs.Answers.{refusals_in};
 ghost use Rattle.matching.specs.Stability.{StableCall};
 ghost use Rattle.matching.specs.StableCalls.{Found};
 
+use crate::checks::check_length;
 use crate::plans::{number_written, write_each};
 use crate::proposals::Proposals;
 use lists::faults::Fault;
@@ -68,14 +69,11 @@ pub(crate) fn pair<L: Lists>(lists: &L, plan: &mut [u16])
 }
 
 // Writes the crew-best stable plan, a number for each crew: 0 for none, else the site's number plus 1.
-// A wrong length has a fault of its own here, which other calls do not answer.
 pub fn stable_plan<L: Lists>(lists: &L, plan: &mut [u16]) -> Result<(), Fault>
     ensures call { StableCall (L.Lists.meaning lists.now) plan.old plan.new result }
     ensures found { length plan.old ≡ size (L.Lists.meaning lists.now) Side.Crew → Found (L.Lists.meaning lists.now) plan.new }
 {
-    if plan.len() != usize::from(lists.count(Side::Crew)) {
-        return Err(Fault::BufferLength);
-    }
+    check_length(lists, plan, Fault::BufferLength)?;
     pair(lists, plan);
     Ok(())
 }
