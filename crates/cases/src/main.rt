@@ -11,7 +11,7 @@ use std::alloc::{AllocError, Global};
 use std::fmt::Write;
 use std::{env, fs};
 
-// In the form of the test table, which is not the one in which a fault says itself.
+// A fault in the form of the test table, which is shorter than its `Display`.
 fn fault_line(heap: Global, fault: Fault) -> Result<String, AllocError> {
     let number = fault.number();
     let layer = fault.layer();

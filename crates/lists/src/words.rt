@@ -67,7 +67,7 @@ impl fmt::Display for Place {
     }
 }
 
-// What caused a fault.
+// What caused a fault: a text for every case, which no derive could make up.
 fn cause(fault: Fault) -> &'static str
     ensures { result.now ≡ cause_words fault }
 {

@@ -7,7 +7,7 @@ use Rattle.lists.specs.Rankings.{Rankings, Lawful, ranks, place, size, place_of}
 use Rattle.lists.specs.declared.parties.Party.{Party}
 use Rattle.lists.specs.declared.parties.Side.TheVariants.{Crew, Site}
 use Rattle.lists.proofs.Pigeonhole.{length_few}
-use Rattle.matching.specs.Copies.{number_of}
+use Rattle.matching.specs.Copies.{copy_number}
 use Rattle.matching.specs.Roles.{HasRole, role_list}
 use Rattle.matching.specs.TwoLevels.{lower, upper, stand_in_of, lower_list, upper_list, split_list, own_list, two_levels_of}
 use Rattle.matching.specs.declared.copies.CrewCopy.{CrewCopy}
@@ -43,7 +43,7 @@ module _ (L : Rankings) (p : Party) (there : p.number < size (two_levels_of L) p
   site_sized : p.side ≡ Site → Sized L
   site_sized s = let h : p.number < size (two_levels_of L) Site = rw s at there in sized_by_site L p.number (omega (arith, size_sites L))
 
-  pub copied_role : (c : CrewCopy) → p.side ≡ Crew → p.number ≡ number_of c → Plays (Copied c)
+  pub copied_role : (c : CrewCopy) → p.side ≡ Crew → p.number ≡ copy_number c → Plays (Copied c)
   copied_role (Lower i) s n =
       let z = crew_sized s in
       let h : lower i < size (two_levels_of L) Crew = rw (s, n) at there in

@@ -8,7 +8,7 @@ use Rattle.lists.specs.declared.parties.Side.TheVariants.{Crew, Site}
 use Rattle.matching.specs.Deferred.{crew_best_of}
 use Rattle.matching.specs.Levels.{LevelRules, level_of, level_held, favours}
 use Rattle.matching.specs.Plans.{With, Listed, PlanOn, partner_of, number_written, site_written}
-use Rattle.matching.specs.Settled.{real_site_of, partner_in, site_by_copies, level_by_copies, sites_in, levels_in, settled_plan_of, settled_levels_of, SettledPlanIsDominant}
+use Rattle.matching.specs.Settled.{real_site_of, copy_partner, site_by_copies, level_by_copies, sites_in, levels_in, settled_plan_of, settled_levels_of, SettledPlanIsDominant}
 use Rattle.matching.specs.Stability.{Rather, Stable}
 use Rattle.matching.specs.TwoLevels.{lower, upper, stand_in_of, lower_list, upper_list, own_list, fits_two_levels, crew_total, two_levels_of}
 use Rattle.matching.specs.Votes.{likes}
@@ -162,8 +162,8 @@ module _ {L : Rankings} (lawful : Lawful L) (few : fits_two_levels L ≡ true) w
     read_lower i h up =
         let down = lower_placed i h up in
         let real = real_site_is down.0 (named_real i down.0 down.2) in
-        let low : real_site_of L (partner_in T (lower i)) ≡ Some down.0 = ap (λ p. real_site_of L (site_written p)) down.1 ∙ real in
-        let site : site_by_copies L T i ≡ suc down.0 = ap (λ o. number_written (option_or o (real_site_of L (partner_in T (upper i))))) low in
+        let low : real_site_of L (copy_partner T (lower i)) ≡ Some down.0 = ap (λ p. real_site_of L (site_written p)) down.1 ∙ real in
+        let site : site_by_copies L T i ≡ suc down.0 = ap (λ o. number_written (option_or o (real_site_of L (copy_partner T (upper i))))) low in
         record {
           level = cond-true (eqb (get_or T (upper i) 0) (suc (stand_in_of L i))) 0 1 (eq-eqb (get_or T (upper i) 0) (suc (stand_in_of L i)) up);
           binary = omega arith;
@@ -177,8 +177,8 @@ module _ {L : Rankings} (lawful : Lawful L) (few : fits_two_levels L ≡ true) w
     read_upper : (i : ℕ) → i < size L Crew → (With T Crew (upper i) (stand_in_of L i) → ⊥) → Read i 1
     read_upper i h not-upper =
         let down = own_taken i h not-upper in
-        let low : real_site_of L (partner_in T (lower i)) ≡ None = ap (λ p. real_site_of L (site_written p)) down ∙ no_site i in
-        let site : site_by_copies L T i ≡ kept_number (get_or T (upper i) 0) = ap (λ o. number_written (option_or o (real_site_of L (partner_in T (upper i))))) low in
+        let low : real_site_of L (copy_partner T (lower i)) ≡ None = ap (λ p. real_site_of L (site_written p)) down ∙ no_site i in
+        let site : site_by_copies L T i ≡ kept_number (get_or T (upper i) 0) = ap (λ o. number_written (option_or o (real_site_of L (copy_partner T (upper i))))) low in
         let is = upper_real (get_or T (upper i) 0) refl in
         record {
           level = cond-false (eqb (get_or T (upper i) 0) (suc (stand_in_of L i))) 0 1 (ne_eqb (get_or T (upper i) 0) (suc (stand_in_of L i)) not-upper);

@@ -4,6 +4,6 @@ use Rattle.matching.specs.TwoLevels.{lower, upper}
 use Rattle.matching.specs.declared.copies.CrewCopy.{CrewCopy}
 use Rattle.matching.specs.declared.copies.CrewCopy.TheVariants.{Lower, Upper}
 
-abbrev pub number_of : CrewCopy → ℕ
-number_of (Lower i) = lower i
-number_of (Upper i) = upper i
+abbrev pub copy_number : CrewCopy → ℕ
+copy_number (Lower i) = lower i
+copy_number (Upper i) = upper i

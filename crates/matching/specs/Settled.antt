@@ -22,12 +22,12 @@ real_site_of L None = None
 real_site_of L (Some j) = cond (nat_lt j (size L Site)) (Some j) None
 
 -- the partner that crew x has in a plan on the two-level lists
-abbrev pub partner_in : List ℕ → ℕ → Option ℕ
-partner_in T x = site_written (slice_index T x)
+abbrev pub copy_partner : List ℕ → ℕ → Option ℕ
+copy_partner T x = site_written (slice_index T x)
 
 -- what the plan read off has for crew i: the site of its lower or else of its upper crew
 abbrev pub site_by_copies : Rankings → List ℕ → ℕ → ℕ
-site_by_copies L T i = number_written (option_or (real_site_of L (partner_in T (lower i))) (real_site_of L (partner_in T (upper i))))
+site_by_copies L T i = number_written (option_or (real_site_of L (copy_partner T (lower i))) (real_site_of L (copy_partner T (upper i))))
 
 -- its level: 0 where the stand-in is with its upper crew, and 1 where it is not
 abbrev pub level_by_copies : Rankings → List ℕ → ℕ → ℕ

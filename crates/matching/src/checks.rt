@@ -18,7 +18,7 @@ struct Taken {
 }
 
 impl Taken {
-    // No site is taken.
+    // No site is taken; written out, since a derived default is not known to hold these values.
     fn new() -> Taken
         ensures { result.sites ≡ replicate 500 false }
     {
@@ -90,7 +90,7 @@ impl<L: Lists> Checked<'_, L> {
     {
         let mut taken = Taken::new();
         for (crew, number) in self.plan.iter().enumerate() {
-            // A crew below 500 fits 16 bits.
+            // `enumerate` counts in `usize`, and a second counter of 16 bits beside it would say no more.
             self.check_crew(&taken, crew as u16, *number)?;
             taken.take(*number);
         }
@@ -98,7 +98,7 @@ impl<L: Lists> Checked<'_, L> {
     }
 }
 
-// Checks that numbers are a plan on lists.
+// Checks that numbers are a plan on lists, as a caller in C writes one.
 #[tactic(auto, using(crate::proofs::Passing::passing_is_a_plan))]
 pub fn check_plan<L: Lists>(lists: &L, plan: &[u16], which: Which) -> Result<(), Fault>
     ensures answer { result ≡ granted (plan_fault (L.Lists.meaning lists.now) plan.now which) tt }

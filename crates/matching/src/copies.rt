@@ -1,6 +1,6 @@
 // The two crews of the two-level lists that each crew becomes, and the numbers that they have.
 ghost use Rattle.std.specs.Prelude.{◌≡◌, ◌^◌, ◌<◌};
-ghost use Rattle.matching.specs.Copies.{number_of};
+ghost use Rattle.matching.specs.Copies.{copy_number};
 
 // A crew of the two-level lists: the lower or the upper one of a crew below.
 #[derive(Clone, Copy, PartialEq, Eq, Debug)]
@@ -10,10 +10,10 @@ pub(crate) enum CrewCopy {
 }
 
 impl CrewCopy {
-    // The number of the copy.
+    // The number of the copy; no `From`, since it is asked only where the number fits.
     pub(crate) fn number(self) -> u16
-        requires { number_of self < 2 ^ 16 }
-        ensures { result ≡ number_of self }
+        requires { copy_number self < 2 ^ 16 }
+        ensures { result ≡ copy_number self }
     {
         match self {
             CrewCopy::Lower { crew } => 2 * crew,
@@ -24,7 +24,7 @@ impl CrewCopy {
 
 // The copy that has a number.
 impl From<u16> for CrewCopy {
-    ghost from_gives = { λ number copy. number ≡ number_of copy };
+    ghost from_gives = { λ number copy. number ≡ copy_number copy };
 
     fn from(number: u16) -> CrewCopy {
         let crew = number / 2;

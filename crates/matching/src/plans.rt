@@ -25,7 +25,7 @@ pub(crate) fn write_each<T: Drop, F: Fn(u16) -> T>(slots: &mut [T], of: F)
     ensures { EachSlot slots.new (F.post of) }
 {
     for (index, slot) in slots.iter_mut().enumerate() {
-        // The slots are few, so that 16 bits hold their indices.
+        // `enumerate` counts in `usize`; with a counter of 16 bits zipped in, the proof did not close.
         *slot = of(index as u16);
     }
 }

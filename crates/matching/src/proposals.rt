@@ -22,7 +22,7 @@ pub(crate) struct Proposals {
 }
 
 impl Proposals {
-    // Nobody has asked anybody yet.
+    // Nobody has asked anybody yet; written out, since a derived default is not known to hold these values.
     pub(crate) fn new() -> Proposals
         ensures { result ≡ unasked }
     {

@@ -49,9 +49,9 @@ fn ask_all<L: Lists>(lists: &L) -> Proposals
     state
 }
 
-// What a plan has for a crew in the end: the entry that has not refused it.
+// What is written for a crew, whose number the loop over the slots hands in: the entry that has not refused it.
 #[tactic(auto, using(crate::proofs::Few::few_parties))]
-fn chosen<L: Lists>(lists: &L, state: &Proposals, crew: u16) -> u16
+fn final_number<L: Lists>(lists: &L, state: &Proposals, crew: u16) -> u16
     requires { crew < size (L.Lists.meaning lists.now) Side.Crew }
     ensures { result ≡ chosen (ranks (L.Lists.meaning lists.now) Side.Crew crew) (refusals_in state.now crew) }
 {
@@ -65,10 +65,10 @@ pub(crate) fn pair<L: Lists>(lists: &L, plan: &mut [u16])
     ensures { Found (L.Lists.meaning lists.now) plan.new }
 {
     let state = ask_all(lists);
-    write_each(plan, |crew| chosen(lists, &state, crew));
+    write_each(plan, |crew| final_number(lists, &state, crew));
 }
 
-// Writes the crew-best stable plan, a number for each crew: 0 for none, else the site's number plus 1.
+// Writes the crew-best stable plan as a caller in C reads it, a number for each crew: 0 for none, else the site's number plus 1.
 pub fn stable_plan<L: Lists>(lists: &L, plan: &mut [u16]) -> Result<(), Fault>
     ensures call { StableCall (L.Lists.meaning lists.now) plan.old plan.new result }
     ensures found { length plan.old ≡ size (L.Lists.meaning lists.now) Side.Crew → Found (L.Lists.meaning lists.now) plan.new }

@@ -63,13 +63,15 @@ impl<L: Lists> TwoLevel<L> {
         ensures { result ≡ entry_at (split_list (ranks (L.Lists.meaning self.now.lists) Side.Site site)) place }
     {
         let length = self.lists.length(Party::site(site));
-        if place < length {
-            let crew = self.lists.entry(Party::site(site), place)?;
-            Some(CrewCopy::Upper { crew }.number())
-        } else {
-            let crew = self.lists.entry(Party::site(site), place - length)?;
-            Some(CrewCopy::Lower { crew }.number())
-        }
+        let copy = match place.checked_sub(length) {
+            None => CrewCopy::Upper {
+                crew: self.lists.entry(Party::site(site), place)?,
+            },
+            Some(rest) => CrewCopy::Lower {
+                crew: self.lists.entry(Party::site(site), rest)?,
+            },
+        };
+        Some(copy.number())
     }
 
     #[tactic(auto, using(crate::proofs::RoleLists::split_places))]

@@ -10,7 +10,7 @@ pub enum Command<'a> {
     Input,
     // Pair the roster in a file.
     File { path: &'a str },
-    // Pair a ring.
+    // Pair a ring; its three numbers are not known to fit yet, so they are no `Ring`.
     Ring { size: u16, crews: u16, sites: u16 },
 }
 

@@ -26,6 +26,7 @@ impl Pairing {
     {
         let mut plan = vec![in heap; 0; usize::from(lists.count(Side::Crew))]?;
         let Ok(()) = stable_plan(lists, plan.as_mut_slice()) else {
+            // The plan has one number for each crew.
             unreachable!()
         };
         Ok(Pairing { side, plan })
@@ -63,7 +64,8 @@ impl Pairing {
         self.plan.get(usize::from(number))?.checked_sub(1)
     }
 
-    // Who has the party of a number on the other side; a plan is short, so that 16 bits hold the place.
+    // Who has the party of a number on the other side.
+    // `position` counts in `usize`; the place in a plan fits 16 bits, and a failing conversion would need a fault that cannot come.
     fn holder_of(&self, number: u16) -> Option<u16>
         ensures { result ≡ held self.now.plan.items number }
     {

@@ -5,7 +5,7 @@ ghost use Rattle.planner.specs.Troubles.{trouble_words};
 ghost use Rattle.planner.specs.declared.troubles.Trouble.TheVariants.{Unfit, Io, Memory};
 
 use lists::faults::Fault;
-use std::alloc::{AllocError, AllocFailed};
+use std::alloc::AllocError;
 use std::{fmt, io};
 
 #[derive(Drop)]
@@ -20,7 +20,7 @@ pub enum Trouble {
     Memory,
 }
 
-// The four `From` are by hand, since what a derive writes does not tell a contract which case comes of a `?`.
+// The three `From` are by hand, since what a derive writes does not tell a contract which case comes of a `?`.
 impl From<Fault> for Trouble {
     ghost from_gives = { λ fault trouble. trouble ≡ Unfit fault };
 
@@ -41,14 +41,6 @@ impl From<AllocError> for Trouble {
     ghost from_gives = { λ _ trouble. trouble ≡ Memory };
 
     fn from(_: AllocError) -> Trouble {
-        Trouble::Memory
-    }
-}
-
-impl<T: Drop> From<AllocFailed<T>> for Trouble {
-    ghost from_gives = { λ _ trouble. trouble ≡ Memory };
-
-    fn from(_: AllocFailed<T>) -> Trouble {
         Trouble::Memory
     }
 }

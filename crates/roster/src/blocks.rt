@@ -30,6 +30,7 @@ fn first_nonzero(bytes: &[u8]) -> Option<usize>
     bytes.iter().position(|byte| *byte != 0)
 }
 
+// Where a field stands is a number at each call, so what lies within the block is asked there.
 impl Block<'_> {
     // Where the block begins in the roster.
     fn start(&self) -> usize
@@ -72,7 +73,7 @@ impl Block<'_> {
     {
         let mut sum = 0;
         for (at, byte) in self.bytes(0..CHECKED).iter().enumerate() {
-            // A place below 508 fits; a conversion that can fail would bring an error that cannot come.
+            // `enumerate` counts in `usize`, and a second counter of 32 bits beside it would say no more.
             sum += (at as u32 + 1) * u32::from(*byte);
         }
         sum
@@ -123,7 +124,7 @@ impl Block<'_> {
         let from = part.start;
         match first_nonzero(self.bytes(part)) {
             None => Ok(()),
-            // A place in a block fits 16 bits.
+            // `position` counts in `usize`; a conversion that can fail would need a fault that cannot come.
             Some(k) => Err(self.wrong_field(from + k as u16)),
         }
     }

@@ -20,7 +20,7 @@ impl Model for Half {
 }
 
 impl Half {
-    // The lists in the order of their parties.
+    // The lists in the order of their parties; this and `count` hand the array on as a row does, and a trait for both would be longer.
     pub(crate) fn rows(&self) -> &[Row]
         ensures rows { result.now ≡ self.now }
         ensures few { length self.now ≤ 250 }
@@ -36,7 +36,7 @@ impl Half {
         self.rows().get(usize::from(party))
     }
 
-    // How many parties the side has: at most 250, which fits 16 bits.
+    // How many parties the side has: a `usize` at most 250, for which a failing conversion would need a fault that cannot come.
     pub(crate) fn count(&self) -> u16
         ensures { result ≡ length self.now }
     {

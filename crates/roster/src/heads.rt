@@ -36,7 +36,7 @@ impl<'a> Head<'a> {
         block.check_seal()?;
         block.check(0, 1u8)?;
         block.check_zeros(1..4)?;
-        // The limit of an array is a `usize`, and fits 16 bits.
+        // The limit is a `usize`, since arrays have it; a second constant of 16 bits would say it again.
         let crews = block.bounded(4, LIMIT as u16)?;
         let sites = block.bounded(6, LIMIT as u16)?;
         block.check_zeros(8..CHECKED)?;

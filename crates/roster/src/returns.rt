@@ -15,7 +15,7 @@ fn check_row(row: &Row, back: &Half, block: u16, party: u16) -> Result<(), Fault
 {
     for (k, named) in row.entries().iter().enumerate() {
         if back.place(*named, party).is_none() {
-            // A place below 250 fits 16 bits.
+            // `enumerate` counts in `usize`, and a second counter of 16 bits beside it would say no more.
             return Err(Fault::EntryUnreturned {
                 block,
                 byte: entry_byte(k as u16),
@@ -31,7 +31,7 @@ pub(crate) fn check_returns(own: &Half, back: &Half, first: u16) -> Result<(), F
     ensures { result_err result ≡ returns_fault own.now back.now first }
 {
     for (i, row) in own.rows().iter().enumerate() {
-        // A party below 250 fits 16 bits.
+        // Likewise for a party.
         let party = i as u16;
         check_row(row, back, first + party, party)?;
     }

@@ -35,7 +35,7 @@ impl Row {
         self.entries.as_slice()
     }
 
-    // How many parties the list names: at most 250, which fits 16 bits.
+    // How many parties the list names: a `usize` at most 250, for which a failing conversion would need a fault that cannot come.
     pub(crate) fn len(&self) -> u16
         ensures { result ≡ length self.now }
     {

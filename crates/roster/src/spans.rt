@@ -32,7 +32,7 @@ pub(crate) struct Span<'a> {
     ghost low: { first ≤ 251 },
 }
 
-// Byte 0 of each block of a side.
+// Byte 0 of each block of a side, which the format has as a number.
 fn kind(side: Side) -> u8
     ensures { result ≡ kind_of side }
 {
@@ -42,6 +42,7 @@ fn kind(side: Side) -> u8
     }
 }
 
+// A party comes as its number, which the loop over the side hands in.
 impl<'a> Span<'a> {
     // The block of a party.
     fn block(&self, party: u16) -> Block<'a>

@@ -4,7 +4,7 @@ use Rattle.std.specs.Option.{option_or}
 use Rattle.lists.specs.Rankings.{Rankings, size}
 use Rattle.lists.specs.declared.parties.Side.TheVariants.{Site}
 use Rattle.matching.specs.Plans.{number_written}
-use Rattle.matching.specs.Settled.{partner_in, real_site_of}
+use Rattle.matching.specs.Settled.{copy_partner, real_site_of}
 use Rattle.matching.specs.TwoLevels.{lower, upper}
 use Rattle.matching.proofs.settled.Copies.site.Goals as goal
 
@@ -19,6 +19,6 @@ pub number_written-requires : goal.number_written-requires
 number_written-requires g c =
     let L = g.L.Lists.meaning c.args.self.now.lists in
     let few = (g.met.L.Lists.lawful c.args.self.now.lists).few Site in
-    let T = c.args.self.now.both.now in
-    let low = number_real L (partner_in T (lower c.args.crew)) (partner_in T (upper c.args.crew)) in
+    let T = c.args.self.now.doubled.now in
+    let low = number_real L (copy_partner T (lower c.args.crew)) (copy_partner T (upper c.args.crew)) in
     rw (c.or.ensures, c.real_site-lower.ensures, c.real_site-upper.ensures) (omega (arith, low))
