@@ -3,6 +3,7 @@ ghost use Rattle.std.specs.Prelude.{◌≡◌, ◌<◌, ◌≤◌, ◌==◌, fal
 ghost use Rattle.lists.specs.Order.{unless, earliest, granted};
 ghost use Rattle.lists.specs.Rankings.{size};
 ghost use Rattle.lists.specs.declared.parties.Side.TheVariants.{Crew};
+ghost use Rattle.matching.specs.Plans.{number_written, site_written};
 ghost use Rattle.matching.specs.Checks.{crew_fault, plan_fault, PassingIsBeingAPlan, TakenBelow, with_taken};
 
 use crate::limits::MOST;
@@ -28,11 +29,11 @@ impl Taken {
     }
 
     // A crew takes the site that is written for it, if any.
-    fn take(&mut self, number: u16)
-        requires { number ≤ 500 }
-        ensures { self.new.sites ≡ with_taken self.old.sites number }
+    fn take(&mut self, site: Option<u16>)
+        requires { number_written site ≤ 500 }
+        ensures { self.new.sites ≡ with_taken self.old.sites (number_written site) }
     {
-        if let Some(site) = site_written(number) {
+        if let Some(site) = site {
             self.sites[usize::from(site)] = true;
         }
     }
@@ -61,14 +62,14 @@ struct Checked<'a, L: Lists> {
 impl<L: Lists> Checked<'_, L> {
     // The fault of what is written for one crew, where the crews before it have taken theirs.
     #[tactic(auto, using(crate::proofs::Few::few_parties))]
-    fn check_crew(&self, taken: &Taken, crew: u16, number: u16) -> Result<(), Fault>
+    fn check_crew(&self, taken: &Taken, crew: u16, site: Option<u16>) -> Result<(), Fault>
         requires within { crew < length self.now.plan.now }
-        requires written { number ≡ slice_index self.now.plan.now crew }
+        requires written { site ≡ site_written (slice_index self.now.plan.now crew) }
         requires before { TakenBelow self.now.plan.now crew taken.now.sites }
         ensures { result ≡ granted (crew_fault (L.Lists.meaning self.now.lists) self.now.plan.now self.now.which crew) tt }
     {
         let which = self.which;
-        let Some(site) = site_written(number) else {
+        let Some(site) = site else {
             return Ok(());
         };
         if site >= self.lists.count(Side::Site) {
@@ -91,8 +92,9 @@ impl<L: Lists> Checked<'_, L> {
         let mut taken = Taken::new();
         for (crew, number) in self.plan.iter().enumerate() {
             // `enumerate` counts in `usize`, and a second counter of 16 bits beside it would say no more.
-            self.check_crew(&taken, crew as u16, *number)?;
-            taken.take(*number);
+            let site = site_written(*number);
+            self.check_crew(&taken, crew as u16, site)?;
+            taken.take(site);
         }
         Ok(())
     }
