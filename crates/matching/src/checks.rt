@@ -19,7 +19,7 @@ struct Taken {
 }
 
 impl Taken {
-    // No site is taken; written out, since a derived default is not known to hold these values.
+    // No site is taken; written out, since `false` says more than a default would.
     fn new() -> Taken
         ensures { result.sites ≡ replicate 500 false }
     {

@@ -25,7 +25,7 @@ pub(crate) fn write_each<T: Drop, F: Fn(u16) -> T>(slots: &mut [T], of: F)
     ensures { EachSlot slots.new (F.post of) }
 {
     for (index, slot) in slots.iter_mut().enumerate() {
-        // `enumerate` counts in `usize`; with a counter of 16 bits zipped in, the proof did not close.
+        // `enumerate` counts in `usize`, and a second counter of 16 bits beside it would say no more.
         *slot = of(index as u16);
     }
 }

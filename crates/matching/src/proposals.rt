@@ -22,7 +22,7 @@ pub(crate) struct Proposals {
 }
 
 impl Proposals {
-    // Nobody has asked anybody yet; written out, since a derived default is not known to hold these values.
+    // Nobody has asked anybody yet; written out, since 0 and `None` say more than a default would.
     pub(crate) fn new() -> Proposals
         ensures { result ≡ unasked }
     {
