@@ -87,7 +87,7 @@ module _ (L : Rankings) (lawful : Lawful L) (refusals holder rank : ℕ → ℕ)
       (get_or xs (refusals i) 0, entry_had i (naming_begun i j named) m, omega arith))
       (cases_lt (place xs j) (refusals i))
 
-  crew_best_in_the_end : CrewBest L P
+  pub crew_best_in_the_end : CrewBest L P
   crew_best_in_the_end = record { stable = record { plan = ends_plan; steady = ends_steady }; best = ends_best }
 
 -- what one crew-best plan gives a crew, the other gives too
@@ -104,7 +104,7 @@ shared L P Q p q i j w =
     let is : mine.0 ≡ j = sym (get_or_place xs mine.0 listed) ∙ ap (λ v. get_or xs v 0) level ∙ get_or_place xs j named in
     rw is at mine.1
 
-one_crew_best : (L : Rankings) (P Q : List ℕ) → CrewBest L P → CrewBest L Q → P ≡ Q
+pub one_crew_best : (L : Rankings) (P Q : List ℕ) → CrewBest L P → CrewBest L Q → P ≡ Q
 one_crew_best L P Q p q = ext_get_or 0 P Q (p.stable.plan.whole ∙ sym q.stable.plan.whole) (λ i _. same i (get_or P i 0) (get_or Q i 0) refl refl)
   where
     none : (i a : ℕ) → get_or P i 0 ≡ a → get_or Q i 0 ≡ zero → a ≡ zero
@@ -115,7 +115,7 @@ one_crew_best L P Q p q = ext_get_or 0 P Q (p.stable.plan.whole ∙ sym q.stable
     same i a zero e f = none i a e f
     same i a (suc b) e f = sym e ∙ shared L P Q p q i b f
 
-the_crew_best : (L : Rankings) (P : List ℕ) → CrewBest L P → TheCrewBest L P
+pub the_crew_best : (L : Rankings) (P : List ℕ) → CrewBest L P → TheCrewBest L P
 the_crew_best L P p = record { crew_best = p; alone = λ Q q. one_crew_best L Q P q p }
 
 -- the same of the state as the program holds it, when all have begun and nobody is asking

@@ -1,3 +1,4 @@
+pub mod Asked
 pub mod Balances
 pub mod Ballots
 pub mod Deferral

@@ -22,7 +22,7 @@ none_unless : {X : Type 0} (t : Bool) (x : X) → t ≡ true → unless t x ≡ 
 none_unless t x e = rw e refl
 
 module _ (L : Rankings) (xs : List ℕ) (w : Which) where
-  length_passes : length xs ≡ size L Crew → length_fault L xs w ≡ None
+  pub length_passes : length xs ≡ size L Crew → length_fault L xs w ≡ None
   length_passes e = none_unless (eqb (length xs) (size L Crew)) (HandedLength w) (eq-eqb (length xs) (size L Crew) e)
 
 -- what passing tells of a crew

@@ -1,9 +1,10 @@
 -- The lists of the parties of two-level lists, by their roles.
 use Rattle.std.proofs.Common.{◌≡◌, ℕ, ◌<◌, List, [], ◌∷◌, map, length, Some, sym, refl, ◌∙◌, ⊎_elim, arith, length-append}
 use lib.ListN.{length-map}
+use Rattle.std.proofs.lemmas.List.{get_or_append_left}
 use Rattle.std.proofs.lemmas.Bool.{cases_lt}
 use Rattle.std.proofs.lemmas.Bool.Decides.{nat_tests}
-use Rattle.lists.specs.Rankings.{Rankings, Lawful, ranks, place, size, place_of}
+use Rattle.lists.specs.Rankings.{Rankings, Lawful, ranks, place, size, entry_at, place_of}
 use Rattle.lists.specs.declared.parties.Party.{Party}
 use Rattle.lists.specs.declared.parties.Side.TheVariants.{Crew, Site}
 use Rattle.lists.proofs.Pigeonhole.{length_few}
@@ -94,6 +95,20 @@ place_of_lower_own {L} lawful i y e =
     let at = place_lower_own lawful i in
     let long = length_lower lawful i in
     rw e (grind (arith, nat_tests))
+
+-- the same of its places, as the answer to a question about the list below
+pub lower_place_lem : {L : Rankings} → Lawful L → (i y : ℕ) → (y ≡ stand_in_of L i → ⊥) → place_of (ranks L Crew i) y ≡ place_of (lower_list L i) y
+lower_place_lem {L} lawful i y n = sym (place_of_lower L i y n)
+
+-- and of whom it names, but for the last place
+pub lower_entry_lem : {L : Rankings} → Lawful L → (i k : ℕ) → (k ≡ length (ranks L Crew i) → ⊥) → entry_at (ranks L Crew i) k ≡ entry_at (lower_list L i) k
+lower_entry_lem {L} lawful i k n =
+    let xs = ranks L Crew i in
+    let long = length_lower lawful i in
+    ⊎_elim
+    (λ h. let there = get_or_append_left xs (stand_in_of L i ∷ []) 0 k h in grind (arith, nat_tests))
+    (λ h. grind (arith, nat_tests))
+    (cases_lt k (length xs))
 
 -- what the places in both kinds of list need
 pub ruleset lower_places = (place_of_lower, place_of_lower_own)

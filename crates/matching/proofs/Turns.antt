@@ -151,7 +151,7 @@ module _ (L : Rankings) (lawful : Lawful L) (p : Proposals) (n a : ℕ) (before 
   pub asker_fits : a < 500
   asker_fits = let few = lawful.few Crew in let begun = before.begun in let sized = before.sized in omega arith
 
-  count_fits : (i : ℕ) → refusals_in p i < length (ranks L Crew i) → refusals_in p i < 500
+  pub count_fits : (i : ℕ) → refusals_in p i < length (ranks L Crew i) → refusals_in p i < 500
   count_fits i left = let few = length_few L lawful Crew i in omega arith
 
   pub asker_room : refusals_in p a < length (ranks L Crew a) → HasRoom p a

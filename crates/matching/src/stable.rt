@@ -2,7 +2,7 @@
 ghost use Rattle.std.specs.Prelude.{◌≡◌, ℕ, suc, ◌<◌, length};
 ghost use Rattle.lists.specs.Rankings.{size, ranks};
 ghost use Rattle.matching.specs.Acceptance.{Asks, AskingIn, Turned, unrefused, chosen};
-ghost use Rattle.matching.specs.Answers.{refusals_in};
+ghost use Rattle.matching.specs.Answers.{refusals_in, unasked};
 ghost use Rattle.matching.specs.Stability.{StableCall};
 ghost use Rattle.matching.specs.StableCalls.{Found};
 
@@ -37,16 +37,15 @@ fn ask_on<L: Lists>(lists: &L, state: &mut Proposals, first: u16)
     }
 }
 
-// Lets every crew ask, one after the other.
+// Lets every crew ask, one after the other; the state is lent, since one that is handed back is copied twice.
 #[tactic(auto, using(crate::proofs::Turns::untouched))]
-fn ask_all<L: Lists>(lists: &L) -> Proposals
-    ensures { AskingIn (L.Lists.meaning lists.now) result (size (L.Lists.meaning lists.now) Side.Crew) (size (L.Lists.meaning lists.now) Side.Crew) }
+fn ask_all<L: Lists>(lists: &L, state: &mut Proposals)
+    requires { state.old ≡ unasked }
+    ensures { AskingIn (L.Lists.meaning lists.now) state.new (size (L.Lists.meaning lists.now) Side.Crew) (size (L.Lists.meaning lists.now) Side.Crew) }
 {
-    let mut state = Proposals::new();
     for first in 0..lists.count(Side::Crew) {
-        ask_on(lists, &mut state, first);
+        ask_on(lists, state, first);
     }
-    state
 }
 
 // What is written for a crew, whose number the loop over the slots hands in: the entry that has not refused it.
@@ -64,7 +63,8 @@ pub(crate) fn pair<L: Lists>(lists: &L, plan: &mut [u16])
     requires { length plan.old ≡ size (L.Lists.meaning lists.now) Side.Crew }
     ensures { Found (L.Lists.meaning lists.now) plan.new }
 {
-    let state = ask_all(lists);
+    let mut state = Proposals::new();
+    ask_all(lists, &mut state);
     write_each(plan, |crew| final_number(lists, &state, crew));
 }
 

@@ -14,10 +14,10 @@ use Rattle.roster.proofs.Texts.{party_length}
 
 -- blocks before and behind
 module _ (xs ys : List ℕ) (m : ℕ) (long : length xs ≡ 512 * m) where
-  before_at : (b i : ℕ) → b < m → i < 512 → byte_at (xs ++ ys) b i ≡ byte_at xs b i
+  pub before_at : (b i : ℕ) → b < m → i < 512 → byte_at (xs ++ ys) b i ≡ byte_at xs b i
   before_at b i l h = get_or_append_left xs ys 0 (512 * b + i) (omega arith)
 
-  behind_at : (b i : ℕ) → byte_at (xs ++ ys) (m + b) i ≡ byte_at ys b i
+  pub behind_at : (b i : ℕ) → byte_at (xs ++ ys) (m + b) i ≡ byte_at ys b i
   behind_at b i =
       let z : (512 * (m + b) + i) - 512 * m ≡ 512 * b + i = omega arith in
       get_or-append_right xs ys (512 * m) (512 * (m + b) + i) 0 long (omega arith) ∙ ap (λ (k : ℕ). get_or ys k 0) z
@@ -40,12 +40,12 @@ module _ (kind : ℕ) (ls : List (List ℕ)) (short : Short ls) where
   party_whole : (i : ℕ) → length (block (party_text kind i (get_or ls i []))) ≡ 512
   party_whole i = block_length (party_text kind i (get_or ls i [])) (party_short i)
 
-  side_blocks_length : length (side_blocks kind ls) ≡ 512 * length ls
+  pub side_blocks_length : length (side_blocks kind ls) ≡ 512 * length ls
   side_blocks_length =
       pieces_length (λ i. block (party_text kind i (get_or ls i []))) 512 party_whole (range_with_len 0 (length ls))
       ∙ ap (λ (n : ℕ). 512 * n) (length-range_with_len 0 (length ls))
 
-  side_blocks_at : (i : ℕ) → i < length ls → Laid (side_blocks kind ls) i (party_text kind i (get_or ls i []))
+  pub side_blocks_at : (i : ℕ) → i < length ls → Laid (side_blocks kind ls) i (party_text kind i (get_or ls i []))
   side_blocks_at i l j h =
       let n = length-range_with_len 0 (length ls) in
       let z : 0 + i ≡ i = omega arith in

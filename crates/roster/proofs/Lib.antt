@@ -1,3 +1,4 @@
+pub mod Evidence
 pub mod HeadBlocks
 pub mod Law
 pub mod Laying
@@ -12,4 +13,5 @@ pub mod Steps
 pub mod Tests
 pub mod Texts
 pub mod Weights
+pub mod Writes
 pub mod Zeros

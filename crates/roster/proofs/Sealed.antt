@@ -12,13 +12,13 @@ use Rattle.roster.proofs.Weights.{weighted_same}
 zeros_at : (n j : ℕ) → ◌≡◌ {A = ℕ} (get_or (replicate n 0) j 0) 0
 zeros_at n j = ⊎_elim (λ l. get_or-replicate n j 0 0 l) (λ l. get_or_past (replicate n 0) j 0 (let e = length-replicate {A = ℕ} n 0 in omega arith)) (cases_lt j n)
 
-padded_at : (t : List ℕ) (i : ℕ) → get_or (padded t) i 0 ≡ get_or t i 0
+pub padded_at : (t : List ℕ) (i : ℕ) → get_or (padded t) i 0 ≡ get_or t i 0
 padded_at t i = ⊎_elim
     (λ l. get_or_append_left t (replicate (508 - length t) 0) 0 i l)
     (λ l. get_or-append_right t (replicate (508 - length t) 0) (length t) i 0 refl l ∙ zeros_at (508 - length t) (i - length t) ∙ sym (get_or_past t i 0 l))
     (cases_lt i (length t))
 
-padded_length : (t : List ℕ) → length t ≤ 508 → length (padded t) ≡ 508
+pub padded_length : (t : List ℕ) → length t ≤ 508 → length (padded t) ≡ 508
 padded_length t l = let a = length-append t (replicate (508 - length t) 0) in let r = length-replicate {A = ℕ} (508 - length t) 0 in omega arith
 
 pub block_length : (t : List ℕ) → length t ≤ 508 → length (block t) ≡ 512
@@ -28,12 +28,12 @@ block_length t l =
     omega arith
 
 module _ (t : List ℕ) (short : length t ≤ 508) where
-  block_text : (i : ℕ) → i < 508 → get_or (block t) i 0 ≡ get_or t i 0
+  pub block_text : (i : ℕ) → i < 508 → get_or (block t) i 0 ≡ get_or t i 0
   block_text i l =
       let p = padded_length t short in
       get_or_append_left (padded t) (four_bytes (seal (λ k. get_or (padded t) k 0))) 0 i (omega arith) ∙ padded_at t i
 
-  block_check : (j : ℕ) → get_or (block t) (508 + j) 0 ≡ get_or (four_bytes (seal (λ k. get_or (padded t) k 0))) j 0
+  pub block_check : (j : ℕ) → get_or (block t) (508 + j) 0 ≡ get_or (four_bytes (seal (λ k. get_or (padded t) k 0))) j 0
   block_check j =
       let z : (508 + j) - 508 ≡ j = omega arith in
       get_or-append_right (padded t) (four_bytes (seal (λ k. get_or (padded t) k 0))) 508 (508 + j) 0 (padded_length t short) (omega arith)

@@ -3,7 +3,7 @@ use Rattle.std.proofs.Common.{◌≡◌, ℕ, ◌+◌, ◌*◌, ◌<◌, ◌≤�
 use Rattle.std.proofs.lemmas.List.FromFn.{get_or-map-range_with_len, length-map-range_with_len}
 use Rattle.std.proofs.lemmas.List.{get_or_past}
 use Rattle.std.proofs.lemmas.Bool.{cases_lt, cases_order}
-use Rattle.lists.specs.Rankings.{Lawful, place}
+use Rattle.lists.specs.Rankings.{Rankings, Lawful, place}
 use Rattle.lists.specs.Evidence.Places.{get_or_place, place_first}
 use Rattle.lists.specs.declared.faults.Fault.TheVariants.{EntryTooHigh, EntryRepeated, EntryUnreturned}
 use Rattle.lists.specs.declared.parties.Side.TheVariants.{Crew, Site}
@@ -27,7 +27,7 @@ abbrev pub Returned : List (List ℕ) → List (List ℕ) → Type 0
 Returned own back = (i j : ℕ) → place (get_or own i []) j < length (get_or own i []) → place (get_or back j []) i < length (get_or back j [])
 
 -- a party that has a list with something in it is one of the side
-party_below : (ls : List (List ℕ)) (i k : ℕ) → k < length (get_or ls i []) → i < length ls
+pub party_below : (ls : List (List ℕ)) (i k : ℕ) → k < length (get_or ls i []) → i < length ls
 party_below ls i k l = ⊎_elim (λ h. h)
     (λ h. absurd (let e = ap length (get_or_past ls i [] h) in omega arith))
     (cases_lt i (length ls))
@@ -50,12 +50,12 @@ module _ (bs : List ℕ) (b n k : ℕ) (e : entry_fault bs b n k ≡ None) where
   pub entry_low : two_at bs b (6 + 2 * k) < n
   entry_low = none_below _ _ (EntryTooHigh b (6 + 2 * k)) (none_first _ _ e)
 
-  entry_new : k ≤ place (entries bs b k) (two_at bs b (6 + 2 * k))
+  pub entry_new : k ≤ place (entries bs b k) (two_at bs b (6 + 2 * k))
   entry_new = none_most _ _ (EntryRepeated b (6 + 2 * k))
       (none_second (unless (ltb (two_at bs b (6 + 2 * k)) n) (EntryTooHigh b (6 + 2 * k))) _ e)
 
 -- two equal entries: the later one would be repeated
-entries_apart : (bs : List ℕ) (b n k m : ℕ) → entry_fault bs b n m ≡ None → k < m → two_at bs b (6 + 2 * k) ≡ two_at bs b (6 + 2 * m) → ⊥
+pub entries_apart : (bs : List ℕ) (b n k m : ℕ) → entry_fault bs b n m ≡ None → k < m → two_at bs b (6 + 2 * k) ≡ two_at bs b (6 + 2 * m) → ⊥
 entries_apart bs b n k m e l same =
     let new = entry_new bs b n m e in
     let long = entries_length bs b m in
@@ -63,7 +63,7 @@ entries_apart bs b n k m e l same =
     omega arith
 
 module _ (bs : List ℕ) (s : Side) (e : side_fault bs s ≡ None) where
-  span_entry : (i k : ℕ) → i < count_on bs s → k < two_at bs (block_of bs s i) 4 → entry_fault bs (block_of bs s i) (count_on bs (other s)) k ≡ None
+  pub span_entry : (i k : ℕ) → i < count_on bs s → k < two_at bs (block_of bs s i) 4 → entry_fault bs (block_of bs s i) (count_on bs (other s)) k ≡ None
   span_entry i k l h =
       earliest_each _ _ (none_second (fields_fault bs s i) _ (earliest_each (count_on bs s) (party_fault bs s) e i l)) k h
 
@@ -79,13 +79,13 @@ module _ (bs : List ℕ) (s : Side) (e : side_fault bs s ≡ None) where
       let b : k < two_at bs (block_of bs s i) 4 = omega arith in
       (l, b, ap (λ (xs : List ℕ). get_or xs k 0) at ∙ entries_at bs (block_of bs s i) (two_at bs (block_of bs s i) 4) k b)
 
-  span_within : Within (lists_in bs s) (count_on bs (other s))
+  pub span_within : Within (lists_in bs s) (count_on bs (other s))
   span_within i k h =
       let p = span_at i k h in
       let low = entry_low bs (block_of bs s i) (count_on bs (other s)) k (span_entry i k p.0 p.1) in
       rw p.2 low
 
-  span_once : Once (lists_in bs s)
+  pub span_once : Once (lists_in bs s)
   span_once i k m h j same =
       let p = span_at i k h in
       let q = span_at i m j in
@@ -98,7 +98,7 @@ module _ (bs : List ℕ) (s : Side) (e : side_fault bs s ≡ None) where
       (cases_order k m)
 
 -- no entry that is not returned
-returned_none : (own back : List (List ℕ)) (first : ℕ) → returns_fault own back first ≡ None → Returned own back
+pub returned_none : (own back : List (List ℕ)) (first : ℕ) → returns_fault own back first ≡ None → Returned own back
 returned_none own back first e i j h =
     let xs = get_or own i [] in
     let k = place xs j in
@@ -107,6 +107,17 @@ returned_none own back first e i j h =
     subst (λ (v : ℕ). place (get_or back v []) i < length (get_or back v [])) (get_or_place xs j h)
     (none_below _ _ (EntryUnreturned (first + i) (6 + 2 * k)) g)
 
+-- lists are lawful if both of their sides are
+pub lawful_halves : (L : Rankings) → length L.crews ≤ 500 → length L.sites ≤ 500
+    → Within L.crews (length L.sites) → Within L.sites (length L.crews) → Once L.crews → Once L.sites
+    → Returned L.crews L.sites → Returned L.sites L.crews → Lawful L
+lawful_halves L nc ns wc ws oc os rc rs = record {
+  few = elim [ Crew ↦ nc | Site ↦ ns ];
+  within = elim [ Crew ↦ wc | Site ↦ ws ];
+  once = elim [ Crew ↦ oc | Site ↦ os ];
+  returned = elim [ Crew ↦ rc | Site ↦ rs ];
+}
+
 -- the lists that were read, where nothing was found on the way
 pub lawful_read : (bs : List ℕ) (c s : List (List ℕ)) → c ≡ lists_in bs Crew → s ≡ lists_in bs Site → count_on bs Crew ≤ 250 → count_on bs Site ≤ 250
     → side_fault bs Crew ≡ None → side_fault bs Site ≡ None
@@ -114,9 +125,7 @@ pub lawful_read : (bs : List ℕ) (c s : List (List ℕ)) → c ≡ lists_in bs 
 lawful_read bs c s ec es nc ns fc fs rc rs =
     let lc : length c ≡ count_on bs Crew = rw ec (span_length bs Crew) in
     let ls : length s ≡ count_on bs Site = rw es (span_length bs Site) in
-    record {
-      few = elim [ Crew ↦ omega arith | Site ↦ omega arith ];
-      within = elim [ Crew ↦ rw (ls, ec) (span_within bs Crew fc) | Site ↦ rw (lc, es) (span_within bs Site fs) ];
-      once = elim [ Crew ↦ rw ec (span_once bs Crew fc) | Site ↦ rw es (span_once bs Site fs) ];
-      returned = elim [ Crew ↦ returned_none c s (first_on bs Crew) rc | Site ↦ returned_none s c (first_on bs Site) rs ];
-    }
+    lawful_halves (both_of c s) (omega arith) (omega arith)
+    (rw (ls, ec) (span_within bs Crew fc)) (rw (lc, es) (span_within bs Site fs))
+    (rw ec (span_once bs Crew fc)) (rw es (span_once bs Site fs))
+    (returned_none c s (first_on bs Crew) rc) (returned_none s c (first_on bs Site) rs)

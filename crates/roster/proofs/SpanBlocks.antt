@@ -23,7 +23,7 @@ module _ (bs : List ℕ) (s : Side) (few : count_on bs (other s) ≤ 250) (low :
   fields : (i : ℕ) → i < count_on bs s → fields_fault bs s i ≡ None
   fields i l = none_first _ _ (earliest_each (count_on bs s) (party_fault bs s) e i l)
 
-  span_short : (i : ℕ) → i < count_on bs s → length (list_in bs (block_of bs s i)) ≤ 250
+  pub span_short : (i : ℕ) → i < count_on bs s → length (list_in bs (block_of bs s i)) ≤ 250
   span_short i l =
       let b = list_bound bs s i few (fields i l) in
       let n = entries_length bs (block_of bs s i) (two_at bs (block_of bs s i) 4) in

@@ -3,7 +3,7 @@ use Rattle.std.proofs.Common.{◌≡◌, ℕ, ◌<◌, ◌≤◌, Bool, true, fa
 use Rattle.std.proofs.lemmas.Bool.{eqb-true, eq-eqb, ltb-true, lt-ltb, leb-true, le-leb, cond-true}
 use Rattle.lists.specs.Order.{unless}
 
-unless_none : {X : Type 0} (t : Bool) (x : X) → unless t x ≡ None → t ≡ true
+pub unless_none : {X : Type 0} (t : Bool) (x : X) → unless t x ≡ None → t ≡ true
 unless_none true x e = refl
 unless_none false x e = absurd (let z : ◌≡◌ {A = ℕ} 0 1 = cc in omega arith)
 

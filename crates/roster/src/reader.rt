@@ -1,10 +1,11 @@
 // Reading a roster.
 ghost use Rattle.std.specs.Prelude.{◌≡◌, Some, None, MatchResult};
 ghost use Rattle.roster.specs.Layout.{shown};
-ghost use Rattle.roster.specs.FirstFault.{first_fault};
+ghost use Rattle.roster.specs.FirstFault.{length_fault, head_fault, blocks_fault, first_fault};
 ghost use Rattle.roster.specs.Held.{both_of};
 ghost use Rattle.roster.specs.LaidDown.{RostersAreListsLaidDown};
 
+use crate::halves::Half;
 use crate::heads::{Head, check_length};
 use crate::returns::check_returns;
 use crate::rosters::Roster;
@@ -21,10 +22,24 @@ pub fn read(bytes: &[u8]) -> Result<Roster, Fault>
     check_length(bytes)?;
     let head = Head::read(bytes)?;
     head.check_blocks()?;
+    read_lists(&head)
+}
+
+// The lists behind block 0; a call of its own, so that a roster refused before it needs no room for them.
+fn read_lists(head: &Head<'_>) -> Result<Roster, Fault>
+    requires length { length_fault head.now.roster.now ≡ None }
+    requires first { head_fault head.now.roster.now ≡ None }
+    requires blocks { blocks_fault head.now.roster.now ≡ None }
+    ensures { MatchResult result
+        (λ x. (first_fault head.now.roster.now ≡ None) × (both_of x.crews x.sites ≡ shown head.now.roster.now))
+        (λ f. first_fault head.now.roster.now ≡ Some f) }
+{
     let crew_blocks = head.span(Side::Crew);
     let site_blocks = head.span(Side::Site);
-    let crews = crew_blocks.read()?;
-    let sites = site_blocks.read()?;
+    let mut crews = Half::default();
+    let mut sites = Half::default();
+    crew_blocks.read(&mut crews)?;
+    site_blocks.read(&mut sites)?;
     check_returns(&crews, &sites, crew_blocks.first)?;
     check_returns(&sites, &crews, site_blocks.first)?;
     Ok(Roster { crews, sites })

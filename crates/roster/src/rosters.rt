@@ -1,5 +1,5 @@
 // A roster that was read, and its answers as lists.
-ghost use Rattle.std.specs.Prelude.{◌≡◌};
+ghost use Rattle.std.specs.Prelude.{◌≡◌, ◌≤◌, length};
 ghost use Rattle.lists.specs.Rankings.{half as lists_on, Lawful};
 ghost use Rattle.roster.specs.Held.{both_of};
 
@@ -7,12 +7,14 @@ use crate::halves::Half;
 use lists::interface::Lists;
 use lists::parties::{Party, Side};
 
-// What was decoded, with the evidence that its lists are lawful.
+// What was decoded, with the evidence that its lists are lawful and no longer than the format allows.
 #[derive(Drop)]
 pub struct Roster {
     pub(crate) crews: Half,
     pub(crate) sites: Half,
     ghost kept: { Lawful (both_of crews sites) },
+    ghost few_crews: { length crews ≤ 250 },
+    ghost few_sites: { length sites ≤ 250 },
 }
 
 impl Roster {

@@ -1,5 +1,5 @@
 // The blocks of one side, and the lists in them.
-ghost use Rattle.std.specs.Prelude.{◌≡◌, ◌+◌, ◌*◌, ◌<◌, ◌≤◌, length, IfOk};
+ghost use Rattle.std.specs.Prelude.{◌≡◌, ◌+◌, ◌*◌, ◌<◌, ◌≤◌, [], length, IfOk, OnOk};
 ghost use Rattle.std.specs.Result.{result_err};
 ghost use Rattle.lists.specs.Sides.{other};
 ghost use Rattle.roster.specs.Layout.{two_at, kind_of, count_on, first_on, block_of, list_in, lists_in};
@@ -81,15 +81,15 @@ impl<'a> Span<'a> {
         read_entries(&self.block(party), self.others, len)
     }
 
-    // The lists in order.
-    pub(crate) fn read(&self) -> Result<Half, Fault>
+    // The lists in order; they fill a half that is lent, since one that is handed back is copied.
+    pub(crate) fn read(&self, half: &mut Half) -> Result<(), Fault>
+        requires { half.old ≡ [] }
         ensures fault { result_err result ≡ side_fault self.now.roster.now self.now.side }
-        ensures value { IfOk result (λ half. half ≡ lists_in self.now.roster.now self.now.side) }
+        ensures value { OnOk result (half.new ≡ lists_in self.now.roster.now self.now.side) }
     {
-        let mut half = Half::default();
         for party in 0..self.count {
             half.push(self.read_party(party)?);
         }
-        Ok(half)
+        Ok(())
     }
 }

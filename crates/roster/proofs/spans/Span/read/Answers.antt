@@ -7,7 +7,7 @@ use Rattle.roster.specs.FirstFault.{party_fault}
 use Rattle.roster.proofs.spans.Span.read.Goals as goal
 
 pub loop-party-init : goal.loop-party-init
-loop-party-init c = let none = sym c.default-half.ensures.1 ∙ c.default-half.ensures.2 in record { none = earliest_none _; long = ap length none; read = none }
+loop-party-init c = record { none = earliest_none _; long = ap length c.requires; read = c.requires }
 
 pub returns-in_err-read_party-clause-fault : goal.returns-in_err-read_party-clause-fault
 returns-in_err-read_party-clause-fault c =
