@@ -25,7 +25,7 @@ pub fn read(bytes: &[u8]) -> Result<Roster, Fault>
     read_lists(&head)
 }
 
-// The lists behind block 0; a call of its own, so that a roster refused before it needs no room for them.
+// The lists behind block 0, begun only once that has passed, so that nothing is cleared for a roster refused before.
 fn read_lists(head: &Head<'_>) -> Result<Roster, Fault>
     requires length { length_fault head.now.roster.now ≡ None }
     requires first { head_fault head.now.roster.now ≡ None }

@@ -7,7 +7,7 @@ use crate::halves::Half;
 use lists::interface::Lists;
 use lists::parties::{Party, Side};
 
-// What was decoded, with the evidence that its lists are lawful and no longer than the format allows.
+// What was decoded, with the evidence that its lists are lawful and that no side has more parties than the format allows.
 #[derive(Drop)]
 pub struct Roster {
     pub(crate) crews: Half,
